@@ -1,0 +1,12 @@
+use Rattle.kind.proofs.Laws.{laws}
+use Rattle.kind.proofs.is_sign.Statement.{statement}
+use Rattle.kind.proofs.is_sign.Tie as tie
+
+kind-requires : tie.Need-kind-requires
+kind-requires c κs = search laws
+
+returns : tie.Need-returns
+returns c = search laws
+
+pub is-sign-spec : {M : Type 1} → statement M
+is-sign-spec = tie.close (tie.spec kind-requires returns)

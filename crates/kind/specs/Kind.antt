@@ -1,0 +1,81 @@
+-- The kind of a byte: which token of IEEE 488.2 chapter 7 it may begin.
+use Prim.Native.Nat.{ℕ}
+use mathlib.Core.Bool.{cond}
+use lib.Dec.{eqb}
+use Rattle.kind.specs.Class.{isWhiteSpace, isCapital, isSmall, isDigit, isSign, isQuote, isAscii}
+
+-- the numbers of the kinds, so laid out that each class of several kinds is a range
+abbrev pub newline : ℕ
+newline = 0
+
+abbrev pub blank : ℕ
+blank = 1
+
+abbrev pub star : ℕ
+star = 2
+
+abbrev pub colon : ℕ
+colon = 3
+
+abbrev pub question : ℕ
+question = 4
+
+abbrev pub semicolon : ℕ
+semicolon = 5
+
+abbrev pub comma : ℕ
+comma = 6
+
+abbrev pub sign : ℕ
+sign = 7
+
+abbrev pub point : ℕ
+point = 8
+
+abbrev pub hash : ℕ
+hash = 9
+
+abbrev pub quote : ℕ
+quote = 10
+
+abbrev pub bracket : ℕ
+bracket = 11
+
+abbrev pub other : ℕ
+other = 12
+
+abbrev pub beyond : ℕ
+beyond = 13
+
+abbrev pub underscore : ℕ
+underscore = 14
+
+abbrev pub digit : ℕ
+digit = 15
+
+abbrev pub small : ℕ
+small = 16
+
+abbrev pub capital : ℕ
+capital = 17
+
+-- each byte has one kind; `other` is the rest of ASCII, `beyond` what is no ASCII
+unfoldable pub kindOf : ℕ → ℕ
+kindOf b =
+    cond (eqb b 10) newline
+    (cond (isWhiteSpace b) blank
+    (cond (eqb b 42) star
+    (cond (eqb b 58) colon
+    (cond (eqb b 63) question
+    (cond (eqb b 59) semicolon
+    (cond (eqb b 44) comma
+    (cond (isSign b) sign
+    (cond (eqb b 46) point
+    (cond (eqb b 35) hash
+    (cond (isQuote b) quote
+    (cond (eqb b 40) bracket
+    (cond (eqb b 95) underscore
+    (cond (isDigit b) digit
+    (cond (isSmall b) small
+    (cond (isCapital b) capital
+    (cond (isAscii b) other beyond))))))))))))))))

@@ -1,0 +1,93 @@
+// The kind of a byte, and the classes of characters that the readers ask for.
+mod table;
+
+ghost use mathlib.Core.Path.{_≡_};
+ghost use Rattle.kind.specs.Class.{isWhiteSpace, isCapital, isSmall, isDigit, isLetter, isMnemonic, isSign};
+ghost use Rattle.kind.specs.Kind.{kindOf};
+use table::KINDS;
+
+// The kinds. A class of several is a range: white space, then what may stand in a mnemonic at the top.
+pub const NEWLINE: u8 = 0;
+
+pub const BLANK: u8 = 1;
+
+pub const STAR: u8 = 2;
+
+pub const COLON: u8 = 3;
+
+pub const QUESTION: u8 = 4;
+
+pub const SEMICOLON: u8 = 5;
+
+pub const COMMA: u8 = 6;
+
+pub const SIGN: u8 = 7;
+
+pub const POINT: u8 = 8;
+
+pub const HASH: u8 = 9;
+
+pub const QUOTE: u8 = 10;
+
+pub const BRACKET: u8 = 11;
+
+pub const OTHER: u8 = 12;
+
+pub const BEYOND: u8 = 13;
+
+pub const UNDERSCORE: u8 = 14;
+
+pub const DIGIT: u8 = 15;
+
+pub const SMALL: u8 = 16;
+
+pub const CAPITAL: u8 = 17;
+
+// The kind of a byte.
+pub fn kind(b: u8) -> u8
+    ensures { λ r. ⌜ r ≡ kindOf b ⌝ }
+{
+    KINDS[b as usize]
+}
+
+pub fn is_white_space(b: u8) -> bool
+    ensures { λ r. ⌜ r ≡ isWhiteSpace b ⌝ }
+{
+    kind(b) <= BLANK
+}
+
+pub fn is_mnemonic(b: u8) -> bool
+    ensures { λ r. ⌜ r ≡ isMnemonic b ⌝ }
+{
+    UNDERSCORE <= kind(b)
+}
+
+pub fn is_letter(b: u8) -> bool
+    ensures { λ r. ⌜ r ≡ isLetter b ⌝ }
+{
+    SMALL <= kind(b)
+}
+
+pub fn is_capital(b: u8) -> bool
+    ensures { λ r. ⌜ r ≡ isCapital b ⌝ }
+{
+    kind(b) == CAPITAL
+}
+
+pub fn is_small(b: u8) -> bool
+    ensures { λ r. ⌜ r ≡ isSmall b ⌝ }
+{
+    kind(b) == SMALL
+}
+
+pub fn is_digit(b: u8) -> bool
+    ensures { λ r. ⌜ r ≡ isDigit b ⌝ }
+{
+    kind(b) == DIGIT
+}
+
+pub fn is_sign(b: u8) -> bool
+    ensures { λ r. ⌜ r ≡ isSign b ⌝ }
+{
+    kind(b) == SIGN
+}

@@ -1,0 +1,1 @@
+//! Stand-in: the original's file is not part of what is compared.

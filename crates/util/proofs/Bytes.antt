@@ -1,0 +1,60 @@
+-- Laws of the classes of single characters.
+use Prim.Native.Nat.{ℕ, _+_, _≤_, _<_}
+use mathlib.Core.Path.{_≡_, refl, sym, _∙_}
+use mathlib.Core.List.{List, [], _∷_}
+use mathlib.Core.Bool.{Bool, true, false, not, and-true}
+use native.Mathlib.Omega.{arith}
+use lib.Dec.{eqb, leb}
+use lib.ListN.{length, getD}
+use mir.Syntax.{w8}
+use mir.Val.{Fits}
+use borrow.Author.Needs.{needs}
+use borrow.Author.Tests.{leb-true}
+use Rattle.kind.specs.Class.{isCapital, isSmall, isDigit}
+use Rattle.util.specs.Mnemonic.{pairs, folded, sameLetter, notSmall, optional}
+use Rattle.util.proofs.Pairs.{and-right, differ}
+
+module _ (b : ℕ) (r : Bool) where
+  module _ (e : r ≡ isCapital b) where
+    pub folded-capital′ : r ≡ true → b + 32 ≡ folded b
+    unfolding folded
+    folded-capital′ q = rw (← e, q)
+
+    pub folded-fits′ : r ≡ true → Fits w8 (b + 32)
+    unfolding isCapital
+    folded-fits′ q = record { fits = omega (arith, leb-true b 90 (and-right (leb 65 b) (leb b 90) (sym e ∙ q))) }
+
+    pub folded-other′ : r ≡ false → b ≡ folded b
+    unfolding folded
+    folded-other′ q = rw (← e, q)
+
+    pub optional-capital′ : r ≡ true → false ≡ optional b
+    unfolding optional
+    optional-capital′ q = rw (← e, q)
+
+    pub optional-other′ : (d : Bool) → d ≡ isDigit b → r ≡ false → not d ≡ optional b
+    unfolding optional
+    optional-other′ d f q = rw (← e, q, f)
+
+  pub not-small′ : r ≡ isSmall b → not r ≡ notSmall b
+  unfolding notSmall
+  not-small′ e = rw e
+
+pub same-letter′ : (c d x y : ℕ) → x ≡ folded c → y ≡ folded d → eqb x y ≡ sameLetter c d
+unfolding sameLetter
+same-letter′ c d x y e f = rw (e, f)
+
+module _ (s : List ℕ) where
+  pub one-long′ : (length s ≡ 1 → ⊥) → false ≡ pairs eqb s (49 ∷ [])
+  one-long′ h = sym (differ eqb s (49 ∷ []) h)
+
+  pub one-is′ : length s ≡ 1 → eqb (getD s 0 0) 49 ≡ pairs eqb s (49 ∷ [])
+  unfolding pairs
+  one-is′ = go s
+    where
+      go : (s : List ℕ) → length s ≡ 1 → eqb (getD s 0 0) 49 ≡ pairs eqb s (49 ∷ [])
+      go [] h = absurd (omega arith)
+      go (c ∷ []) h = sym (and-true (eqb c 49))
+      go (c ∷ d ∷ s) h = absurd (omega arith)
+
+pub ruleset laws = (needs, folded-capital′, folded-fits′, folded-other′, optional-capital′, optional-other′, not-small′, same-letter′, one-long′, one-is′)

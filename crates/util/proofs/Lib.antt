@@ -1,0 +1,8 @@
+-- Laws that belong to no one function.
+pub mod Runs
+pub mod Every
+pub mod Pairs
+pub mod Bytes
+pub mod Split
+pub mod Compare
+pub mod Match

@@ -1,0 +1,51 @@
+-- Laws of runs, over any class p, as a loop that passes over one meets them.
+use Prim.Native.Nat.{ℕ, _+_, _≤_, _<_}
+use mathlib.Core.Path.{_≡_, sym, _∙_}
+use mathlib.Core.List.{List}
+use mathlib.Core.Bool.{Bool, true, false, not}
+use native.Mathlib.Omega.{arith}
+use native.Mathlib.Numerals.{add-one}
+use lib.ListN.{length, getD, drop, drop-of-length-le, List·getD-eq-default}
+use lib.Seq.{drop-cons}
+use borrow.Author.Needs.{needs}
+use borrow.Author.Tests.{not-true, not-false}
+use Rattle.kind.specs.Class.{isSign}
+use Rattle.util.specs.Run.{run, runEnd, signEnd}
+
+module _ (p : ℕ → Bool) (s : List ℕ) (i : ℕ) where
+  pub run-past : length s ≤ i → runEnd p s i ≡ i
+  unfolding runEnd run
+  run-past h = rw (drop-of-length-le s) (omega arith)
+
+  pub run-stop : i < length s → p (getD s i 0) ≡ false → runEnd p s i ≡ i
+  unfolding runEnd run
+  run-stop h e = rw (drop-cons s i 0, e) (omega arith)
+
+  pub run-more : i < length s → p (getD s i 0) ≡ true → runEnd p s i ≡ runEnd p s (i + 1)
+  unfolding runEnd run
+  run-more h e = rw (drop-cons s i 0, e, add-one) (omega arith)
+
+module _ (p : ℕ → Bool) (s : List ℕ) (at i : ℕ) (inv : runEnd p s at ≡ runEnd p s i) where
+  pub stop′ : (r : Bool) → i < length s → r ≡ p (getD s i 0) → not r ≡ true → i ≡ runEnd p s at
+  stop′ r h e q = sym (inv ∙ run-stop p s i h (sym e ∙ not-true r q))
+
+  pub more′ : (r : Bool) → i < length s → r ≡ p (getD s i 0) → not r ≡ false → runEnd p s at ≡ runEnd p s (i + 1)
+  more′ r h e q = inv ∙ run-more p s i h (sym e ∙ not-false r q)
+
+  pub past′ : length s ≤ i → i ≡ runEnd p s at
+  past′ h = sym (inv ∙ run-past p s i h)
+
+module _ (s : List ℕ) (at : ℕ) where
+  pub sign-past′ : length s ≤ at → at ≡ signEnd s at
+  unfolding signEnd isSign
+  sign-past′ h = rw (List·getD-eq-default s 0 h)
+
+  pub sign-there′ : (r : Bool) → r ≡ isSign (getD s at 0) → r ≡ true → at + 1 ≡ signEnd s at
+  unfolding signEnd
+  sign-there′ r e q = rw (← e, q)
+
+  pub sign-none′ : (r : Bool) → r ≡ isSign (getD s at 0) → r ≡ false → at ≡ signEnd s at
+  unfolding signEnd
+  sign-none′ r e q = rw (← e, q)
+
+pub ruleset laws = (needs, stop′, more′, past′, sign-past′, sign-there′, sign-none′)

@@ -1,0 +1,53 @@
+use Prim.Native.Nat.{_-_}
+use mathlib.Core.Path.{_≡_}
+use lib.ListN.{length, drop}
+use Rattle.util.specs.Run.{every}
+use Rattle.util.specs.Mnemonic.{optional}
+use Rattle.util.proofs.Every.{laws}
+use Rattle.util.proofs.may_be_left_out.Statement.{statement}
+use Rattle.util.proofs.may_be_left_out.Tie as tie
+
+abbrev Inv-loop : tie.InvT-loop
+Inv-loop s i₀ i = every optional s ≡ every optional (drop i s)
+
+abbrev μ-loop : tie.MeasureT-loop
+μ-loop s i₀ i = length s - i
+
+loop-holds : tie.Need-loop-holds Inv-loop μ-loop
+loop-holds c = search laws
+
+shared-slice-read-is-optional : tie.Need-shared-slice-read-is-optional Inv-loop μ-loop
+shared-slice-read-is-optional c = search laws
+
+is-optional-requires : tie.Need-is-optional-requires Inv-loop μ-loop
+is-optional-requires c κs = search laws
+
+returns : tie.Need-returns Inv-loop μ-loop
+returns c = search laws
+
+add-i : tie.Need-add-i Inv-loop μ-loop
+add-i c = search laws
+
+loop-less : tie.Need-loop-less Inv-loop μ-loop
+loop-less c = search laws
+
+loop-again : tie.Need-loop-again Inv-loop μ-loop
+loop-again c = search laws
+
+returns-2 : tie.Need-returns-2 Inv-loop μ-loop
+returns-2 c = search laws
+
+pub may-be-left-out-spec : {M : Type 1} → statement M
+may-be-left-out-spec =
+    tie.close
+    (tie.spec
+    Inv-loop
+    μ-loop
+    loop-holds
+    shared-slice-read-is-optional
+    is-optional-requires
+    returns
+    add-i
+    loop-less
+    loop-again
+    returns-2)

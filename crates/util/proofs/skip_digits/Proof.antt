@@ -1,0 +1,53 @@
+use Prim.Native.Nat.{_-_}
+use mathlib.Core.Path.{_≡_}
+use lib.ListN.{length}
+use Rattle.kind.specs.Class.{isDigit}
+use Rattle.util.specs.Run.{runEnd}
+use Rattle.util.proofs.Runs.{laws}
+use Rattle.util.proofs.skip_digits.Statement.{statement}
+use Rattle.util.proofs.skip_digits.Tie as tie
+
+abbrev Inv-loop : tie.InvT-loop
+Inv-loop s at i₀ i = runEnd isDigit s at ≡ runEnd isDigit s i
+
+abbrev μ-loop : tie.MeasureT-loop
+μ-loop s at i₀ i = length s - i
+
+loop-holds : tie.Need-loop-holds Inv-loop μ-loop
+loop-holds c = search laws
+
+shared-slice-read-is-digit : tie.Need-shared-slice-read-is-digit Inv-loop μ-loop
+shared-slice-read-is-digit c = search laws
+
+is-digit-requires : tie.Need-is-digit-requires Inv-loop μ-loop
+is-digit-requires c κs = search laws
+
+returns : tie.Need-returns Inv-loop μ-loop
+returns c = search laws
+
+add-i : tie.Need-add-i Inv-loop μ-loop
+add-i c = search laws
+
+loop-less : tie.Need-loop-less Inv-loop μ-loop
+loop-less c = search laws
+
+loop-again : tie.Need-loop-again Inv-loop μ-loop
+loop-again c = search laws
+
+returns-2 : tie.Need-returns-2 Inv-loop μ-loop
+returns-2 c = search laws
+
+pub skip-digits-spec : {M : Type 1} → statement M
+skip-digits-spec =
+    tie.close
+    (tie.spec
+    Inv-loop
+    μ-loop
+    loop-holds
+    shared-slice-read-is-digit
+    is-digit-requires
+    returns
+    add-i
+    loop-less
+    loop-again
+    returns-2)

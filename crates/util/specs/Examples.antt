@@ -1,0 +1,1 @@
+-- Rows 3 and 4 of the worked examples.

@@ -1,0 +1,36 @@
+-- Table names, and the words that spell them: SCPI-99 6.2.1 (short and long form) and 6.2.5.2 (numeric suffix).
+use Prim.Native.Nat.{ℕ}
+use mathlib.Core.Path.{_≡_}
+use mathlib.Core.Logic.{_⊎_}
+use mathlib.Core.List.{List, [], _∷_, _++_}
+use mathlib.Core.Bool.{Bool, true, false, not, _&&_, _||_}
+use lib.ListN.{take, getD}
+use lib.Dec.{eqb}
+use Rattle.kind.specs.Class.{isCapital, isSmall, isDigit}
+use Rattle.util.specs.Run.{run, every}
+use Rattle.util.specs.Mnemonic.{alike, notSmall, stem, suffix, sameSuffix}
+
+-- a table name: capitals, one at least, then small letters, then a suffix that does not start with 0; a star may stand before them
+pub record Name (n : List ℕ) : Type 0 where
+  pub star : List ℕ
+  pub capitals : List ℕ
+  pub smalls : List ℕ
+  pub digits : List ℕ
+  pub parts : n ≡ star ++ (capitals ++ (smalls ++ digits))
+  pub star-or-none : (star ≡ []) ⊎ (star ≡ 42 ∷ [])
+  pub some-capital : capitals ≡ [] → ⊥
+  pub all-capital : every isCapital capitals ≡ true
+  pub all-small : every isSmall smalls ≡ true
+  pub all-digit : every isDigit digits ≡ true
+  pub no-zero : eqb (getD digits 0 0) 48 ≡ false
+
+-- SCPI-99 6.2.1: the long form is all that stands before the suffix, the short form what stands there before the small letters
+abbrev pub long : List ℕ → List ℕ
+long n = stem n
+
+abbrev pub short : List ℕ → List ℕ
+short n = take (run notSmall (stem n)) (stem n)
+
+-- the word is the long or the short form, in either case, and has the same suffix
+unfoldable pub spells : List ℕ → List ℕ → Bool
+spells n w = (alike (long n) (stem w) || alike (short n) (stem w)) && sameSuffix (suffix n) (suffix w)

@@ -1,41 +1,45 @@
--- The classes of characters that the standard's grammar is written in: IEEE 488.2 7.1 to 7.7, over ASCII.
-use Prim.Native.Nat.{ℕ, _+_}
+-- The classes of characters that the grammar of IEEE 488.2 chapter 7 is written in.
+use Prim.Native.Nat.{ℕ}
+use Prim.Native.Char.{Char, code}
 use mathlib.Core.Bool.{Bool, _&&_, _||_}
 use lib.Dec.{eqb, leb}
 
--- from one character to another, both counted
-abbrev pub within : ℕ → ℕ → ℕ → Bool
-within low high b = leb low b && leb b high
+-- the byte is this character; it is one of those from one character to another, both counted
+abbrev pub is : Char → ℕ → Bool
+is c b = eqb b (code c)
+
+abbrev pub within : Char → Char → ℕ → Bool
+within low high b = leb (code low) b && leb b (code high)
 
 -- IEEE 488.2 7.4.1.2, white space: horizontal tab, newline, form feed, carriage return and space alone (docs/DIFFERENCES.md)
 unfoldable pub isWhiteSpace : ℕ → Bool
-isWhiteSpace b = eqb b 9 || (eqb b 10 || (eqb b 12 || (eqb b 13 || eqb b 32)))
+isWhiteSpace b = is "\t" b || (is "\n" b || (is "\u{c}" b || (is "\r" b || is " " b)))
 
 -- IEEE 488.2 7.6.1.2: upper-case alpha, lower-case alpha, digit
 unfoldable pub isCapital : ℕ → Bool
-isCapital b = within 65 90 b
+isCapital = within "A" "Z"
 
 unfoldable pub isSmall : ℕ → Bool
-isSmall b = within 97 122 b
+isSmall = within "a" "z"
 
 unfoldable pub isDigit : ℕ → Bool
-isDigit b = within 48 57 b
+isDigit = within "0" "9"
 
 unfoldable pub isLetter : ℕ → Bool
 isLetter b = isCapital b || isSmall b
 
 -- IEEE 488.2 7.6.1.2: what may stand in a program mnemonic behind its first letter
 unfoldable pub isMnemonic : ℕ → Bool
-isMnemonic b = isLetter b || (isDigit b || eqb b 95)
+isMnemonic b = isLetter b || (isDigit b || is "_" b)
 
--- IEEE 488.2 7.7.2.2: `+` and `-`
+-- IEEE 488.2 7.7.2.2: plus and minus
 unfoldable pub isSign : ℕ → Bool
-isSign b = eqb b 43 || eqb b 45
+isSign b = is "+" b || is "-" b
 
--- IEEE 488.2 7.7.5.2: `"` and `'`
+-- IEEE 488.2 7.7.5.2: the quotes that a string may stand in
 unfoldable pub isQuote : ℕ → Bool
-isQuote b = eqb b 34 || eqb b 39
+isQuote b = is "\"" b || is "'" b
 
--- IEEE 488.2 7.1.1: ASCII has seven bits
+-- ASCII: seven bits
 unfoldable pub isAscii : ℕ → Bool
 isAscii b = leb b 127

@@ -1,8 +1,7 @@
 -- The kind of a byte: which token of IEEE 488.2 chapter 7 it may begin.
 use Prim.Native.Nat.{ℕ}
 use mathlib.Core.Bool.{cond}
-use lib.Dec.{eqb}
-use Rattle.kind.specs.Class.{isWhiteSpace, isCapital, isSmall, isDigit, isSign, isQuote, isAscii}
+use Rattle.kind.specs.Class.{is, isWhiteSpace, isCapital, isSmall, isDigit, isSign, isQuote, isAscii}
 
 -- the numbers of the kinds, so laid out that each class of several kinds is a range
 abbrev pub newline : ℕ
@@ -62,19 +61,19 @@ capital = 17
 -- each byte has one kind; `other` is the rest of ASCII, `beyond` what is no ASCII
 unfoldable pub kindOf : ℕ → ℕ
 kindOf b =
-    cond (eqb b 10) newline
+    cond (is "\n" b) newline
     (cond (isWhiteSpace b) blank
-    (cond (eqb b 42) star
-    (cond (eqb b 58) colon
-    (cond (eqb b 63) question
-    (cond (eqb b 59) semicolon
-    (cond (eqb b 44) comma
+    (cond (is "*" b) star
+    (cond (is ":" b) colon
+    (cond (is "?" b) question
+    (cond (is ";" b) semicolon
+    (cond (is "," b) comma
     (cond (isSign b) sign
-    (cond (eqb b 46) point
-    (cond (eqb b 35) hash
+    (cond (is "." b) point
+    (cond (is "#" b) hash
     (cond (isQuote b) quote
-    (cond (eqb b 40) bracket
-    (cond (eqb b 95) underscore
+    (cond (is "(" b) bracket
+    (cond (is "_" b) underscore
     (cond (isDigit b) digit
     (cond (isSmall b) small
     (cond (isCapital b) capital

@@ -11,8 +11,10 @@ use mir.Val.{Fits}
 use borrow.Author.Needs.{needs}
 use borrow.Author.Tests.{leb-true}
 use Rattle.kind.specs.Class.{isCapital, isSmall, isDigit}
+use Rattle.kind.proofs.Tests.{and-right}
+use Rattle.kind.proofs.Classes.{small-no-capital, small-no-digit, digit-no-capital, capital-no-small}
 use Rattle.util.specs.Mnemonic.{pairs, folded, sameLetter, notSmall, optional}
-use Rattle.util.proofs.Pairs.{and-right, differ}
+use Rattle.util.proofs.Pairs.{differ}
 
 module _ (b : ℕ) (r : Bool) where
   module _ (e : r ≡ isCapital b) where
@@ -56,5 +58,26 @@ module _ (s : List ℕ) where
       go [] h = absurd (omega arith)
       go (c ∷ []) h = sym (and-true (eqb c 49))
       go (c ∷ d ∷ s) h = absurd (omega arith)
+
+module _ (b : ℕ) where
+  pub small-optional : isSmall b ≡ true → optional b ≡ true
+  unfolding optional
+  small-optional e = rw (small-no-capital b e, small-no-digit b e)
+
+  pub capital-needed : isCapital b ≡ true → optional b ≡ false
+  unfolding optional
+  capital-needed e = rw e
+
+  pub digit-needed : isDigit b ≡ true → optional b ≡ false
+  unfolding optional
+  digit-needed e = rw (digit-no-capital b e, e)
+
+  pub capital-not-small : isCapital b ≡ true → notSmall b ≡ true
+  unfolding notSmall
+  capital-not-small e = rw (capital-no-small b e)
+
+  pub small-is-small : isSmall b ≡ true → notSmall b ≡ false
+  unfolding notSmall
+  small-is-small e = rw e
 
 pub ruleset laws = (needs, folded-capital′, folded-fits′, folded-other′, optional-capital′, optional-other′, not-small′, same-letter′, one-long′, one-is′)

@@ -1,14 +1,15 @@
 -- Laws of `every`, over any class p, as a loop that tests each character meets them.
-use Prim.Native.Nat.{ℕ, _+_, _≤_, _<_}
-use mathlib.Core.Path.{_≡_, sym, _∙_}
-use mathlib.Core.List.{List}
+use Prim.Native.Nat.{ℕ, zero, suc, _+_, _≤_, _<_}
+use mathlib.Core.Path.{_≡_, refl, sym, ap, _∙_}
+use mathlib.Core.List.{List, [], _∷_, _++_}
 use mathlib.Core.Bool.{Bool, true, false, not}
 use native.Mathlib.Numerals.{add-one}
 use lib.ListN.{length, getD, drop, drop-of-length-le}
 use lib.Seq.{drop-cons}
 use borrow.Author.Needs.{needs}
 use borrow.Author.Tests.{not-true, not-false}
-use Rattle.util.specs.Run.{every}
+use Rattle.kind.proofs.Tests.{and-left, and-right, and-both, clash}
+use Rattle.util.specs.Run.{run, every}
 
 module _ (p : ℕ → Bool) (s : List ℕ) (i : ℕ) (inv : every p s ≡ every p (drop i s)) where
   pub stop′ : (r : Bool) → i < length s → r ≡ p (getD s i 0) → not r ≡ true → false ≡ every p s
@@ -22,5 +23,43 @@ module _ (p : ℕ → Bool) (s : List ℕ) (i : ℕ) (inv : every p s ≡ every 
   pub past′ : length s ≤ i → true ≡ every p s
   unfolding every
   past′ h = sym (inv ∙ rw (drop-of-length-le s h))
+
+-- Over two texts together.
+
+module _ (p : ℕ → Bool) where
+  pub every-join : (x y : List ℕ) → every p x ≡ true → every p y ≡ true → every p (x ++ y) ≡ true
+  unfolding every
+  every-join [] y hx hy = hy
+  every-join (b ∷ x) y hx hy =
+      and-both (and-left (p b) (every p x) hx) (every-join x y (and-right (p b) (every p x) hx) hy)
+
+  pub every-second : (x y : List ℕ) → every p (x ++ y) ≡ true → every p y ≡ true
+  unfolding every
+  every-second [] y h = h
+  every-second (b ∷ x) y h = every-second x y (and-right (p b) (every p (x ++ y)) h)
+
+  pub every-weaker : (q : ℕ → Bool) → ((b : ℕ) → p b ≡ true → q b ≡ true) → (x : List ℕ) → every p x ≡ true → every q x ≡ true
+  unfolding every
+  every-weaker q f [] h = refl
+  every-weaker q f (b ∷ x) h = and-both (f b (and-left (p b) (every p x) h)) (every-weaker q f x (and-right (p b) (every p x) h))
+
+  -- a text of the class is run through whole, up to one that is not of the class
+  pub run-whole : (x y : List ℕ) → every p x ≡ true → run p y ≡ 0 → run p (x ++ y) ≡ length x
+  unfolding every run
+  run-whole [] y hx hy = hy
+  run-whole (b ∷ x) y hx hy =
+      rw (and-left (p b) (every p x) hx) (ap suc (run-whole x y (and-right (p b) (every p x) hx) hy))
+
+  pub every-drop : (i : ℕ) (x : List ℕ) → every p x ≡ true → every p (drop i x) ≡ true
+  unfolding every
+  every-drop zero x h = h
+  every-drop (suc i) [] h = h
+  every-drop (suc i) (b ∷ x) h = every-drop i x (and-right (p b) (every p x) h)
+
+  -- a text of two classes with no character in common is empty
+  pub no-both : (q : ℕ → Bool) → ((b : ℕ) → p b ≡ true → q b ≡ false) → (x : List ℕ) → every p x ≡ true → every q x ≡ true → x ≡ []
+  unfolding every
+  no-both q f [] h k = refl
+  no-both q f (b ∷ x) h k = clash (and-left (q b) (every q x) k) (f b (and-left (p b) (every p x) h))
 
 pub ruleset laws = (needs, stop′, more′, past′)

@@ -28,6 +28,14 @@ module _ (x : List ℕ) (some : length x ≡ 0 → ⊥) where
   unfolding sameSuffix
   beside-some y other = rw (differ eqb x [] some, differ eqb y [] other, and-false) (or-false (pairs eqb x y))
 
+-- a test of two halves, by its second one
+module _ {t : Bool} (x o : Bool) (e : t ≡ (x && o)) where
+  refused : not o ≡ true → false ≡ t
+  refused k = sym (e ∙ rw (not-true o k) (and-false x))
+
+  granted : not o ≡ false → (c : Bool) → c ≡ x → c ≡ t
+  granted k c q = q ∙ sym (e ∙ rw (not-false o k) (and-true x))
+
 module _ (m s : List ℕ) (a : Bool) (first : a ≡ compares m s) where
   pub at-once′ : a ≡ true → true ≡ matches m s
   unfolding matches
@@ -53,10 +61,10 @@ module _ (m s : List ℕ) (a : Bool) (first : a ≡ compares m s) where
           ∙ rw (one, hx, take-length m, drop-length m, to-end y s, behind-none (drop y s) (behind s y (starts-within′ s y py) hy))
 
       pub word-other′ : not o ≡ true → false ≡ matches m s
-      word-other′ k = sym (word ∙ rw (not-true o k) (and-false (compares m (take y s))))
+      word-other′ = refused (compares m (take y s)) o word
 
       pub word-one′ : not o ≡ false → (c : Bool) → c ≡ compares m (take y s) → c ≡ matches m s
-      word-one′ k c e = sym (word ∙ rw (not-false o k, e) (and-true (compares m (take y s))))
+      word-one′ = granted (compares m (take y s)) o word
 
     module _ (hx : x ≡ length m → ⊥) (hy : y ≡ length s) (o : Bool) (one : o ≡ pairs eqb (take (length m - x) (drop x m)) (49 ∷ [])) where
       name : matches m s ≡ (compares (take x m) s && o)
@@ -65,10 +73,10 @@ module _ (m s : List ℕ) (a : Bool) (first : a ≡ compares m s) where
           ∙ rw (one, hy, take-length s, drop-length s, to-end x m, beside-none (drop x m) (behind m x (starts-within′ m x px) hx))
 
       pub name-other′ : not o ≡ true → false ≡ matches m s
-      name-other′ k = sym (name ∙ rw (not-true o k) (and-false (compares (take x m) s)))
+      name-other′ = refused (compares (take x m) s) o name
 
       pub name-one′ : not o ≡ false → (c : Bool) → c ≡ compares (take x m) s → c ≡ matches m s
-      name-one′ k c e = sym (name ∙ rw (not-false o k, e) (and-true (compares (take x m) s)))
+      name-one′ = granted (compares (take x m) s) o name
 
     module _ (hx : x ≡ length m → ⊥) (hy : y ≡ length s → ⊥) (o : Bool) (equal : o ≡ pairs eqb (take (length m - x) (drop x m)) (take (length s - y) (drop y s))) where
       both : matches m s ≡ (compares (take x m) (take y s) && o)
@@ -77,9 +85,9 @@ module _ (m s : List ℕ) (a : Bool) (first : a ≡ compares m s) where
           ∙ rw (equal, to-end x m, to-end y s, beside-some (drop x m) (behind m x (starts-within′ m x px) hx) (drop y s) (behind s y (starts-within′ s y py) hy))
 
       pub both-other′ : not o ≡ true → false ≡ matches m s
-      both-other′ k = sym (both ∙ rw (not-true o k) (and-false (compares (take x m) (take y s))))
+      both-other′ = refused (compares (take x m) (take y s)) o both
 
       pub both-equal′ : not o ≡ false → (c : Bool) → c ≡ compares (take x m) (take y s) → c ≡ matches m s
-      both-equal′ k c e = sym (both ∙ rw (not-false o k, e) (and-true (compares (take x m) (take y s))))
+      both-equal′ = granted (compares (take x m) (take y s)) o both
 
 pub ruleset laws = (needs, part-long′, starts-within′, at-once′, neither′, word-other′, word-one′, name-other′, name-one′, both-other′, both-equal′)

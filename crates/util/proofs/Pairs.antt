@@ -10,16 +10,8 @@ use lib.Dec.{eqb}
 use lib.Seq.{drop-cons}
 use borrow.Author.Needs.{needs}
 use borrow.Author.Tests.{not-true, not-false, eq-eqb, ne-eqb}
+use Rattle.kind.proofs.Tests.{and-right}
 use Rattle.util.specs.Mnemonic.{pairs}
-
--- the two halves of a test
-pub and-left : (a b : Bool) → (a && b) ≡ true → a ≡ true
-and-left true b h = refl
-and-left false b h = absurd (false≢true h)
-
-pub and-right : (a b : Bool) → (a && b) ≡ true → b ≡ true
-and-right true b h = h
-and-right false b h = absurd (false≢true h)
 
 -- texts of two lengths are no pairs
 pub differ : (r : ℕ → ℕ → Bool) (x y : List ℕ) → (length x ≡ length y → ⊥) → pairs r x y ≡ false

@@ -1,8 +1,9 @@
 -- Laws of `suffixStart`, as a loop from the end meets them.
 use Prim.Native.Nat.{ℕ, zero, suc, pred, _-_, _≤_, _<_}
 use mathlib.Core.Path.{_≡_, refl, sym, ap, _∙_}
+use mathlib.Core.Logic.{_⊎_, inl, inr}
 use mathlib.Core.List.{List, [], _∷_}
-use mathlib.Core.Bool.{Bool, true, false, cond, not, _&&_, and-false}
+use mathlib.Core.Bool.{Bool, true, false, cond, not, _&&_, and-false, true≢false}
 use native.Mathlib.Omega.{arith}
 use native.Mathlib.Numerals.{sub-one}
 use native.Mathlib.Nat.{not-suc-le-zero, le-of-suc-le-suc}
@@ -34,7 +35,7 @@ pub record Passed (s : List ℕ) (i : ℕ) : Type 0 where
   pub digits : every isDigit (drop i s) ≡ true
 
 module _ (s : List ℕ) where
-  stop-at : (i : ℕ) → i ≤ length s → every isDigit (drop i s) ≡ true → 0 < i → isDigit (getD s (pred i) 0) ≡ false → suffixStart s ≡ i
+  pub stop-at : (i : ℕ) → i ≤ length s → every isDigit (drop i s) ≡ true → 0 < i → isDigit (getD s (pred i) 0) ≡ false → suffixStart s ≡ i
   unfolding suffixStart
   stop-at zero w d h f = absurd (not-suc-le-zero h)
   stop-at (suc i) w d h f = rw (not-every s i w f) (last-end s i w d f)
@@ -82,6 +83,45 @@ starts-within s = go (every isDigit s) (last-within s)
     go : (d : Bool) → lastEnd s ≤ length s → cond d (length s) (lastEnd s) ≤ length s
     go true h = omega arith
     go false h = h
+
+-- behind the last character that is no digit stand digits
+last-digits : (s : List ℕ) → every isDigit (drop (lastEnd s) s) ≡ true
+unfolding lastEnd every
+last-digits [] = refl
+last-digits (b ∷ s) = go (every isDigit s) refl (isDigit b) refl (last-digits s)
+  where
+    go : (d : Bool) → every isDigit s ≡ d → (e : Bool) → isDigit b ≡ e → every isDigit (drop (lastEnd s) s) ≡ true
+        → every isDigit (drop (cond d (cond e 0 1) (suc (lastEnd s))) (b ∷ s)) ≡ true
+    go true p true q ih = rw (q, p)
+    go true p false q ih = p
+    go false p e q ih = ih
+
+last-plain : (s : List ℕ) → every isDigit s ≡ false → (m : ℕ) × (lastEnd s ≡ suc m) × (isDigit (getD s m 0) ≡ false)
+unfolding lastEnd every
+last-plain [] h = absurd (true≢false h)
+last-plain (b ∷ s) h = go (every isDigit s) (isDigit b) refl (last-plain s) h
+  where
+    go : (d e : Bool) → isDigit b ≡ e → (d ≡ false → (m : ℕ) × (lastEnd s ≡ suc m) × (isDigit (getD s m 0) ≡ false)) → (e && d) ≡ false
+        → (m : ℕ) × (cond d (cond e 0 1) (suc (lastEnd s)) ≡ suc m) × (isDigit (getD (b ∷ s) m 0) ≡ false)
+    go true true q ih h = absurd (true≢false h)
+    go true false q ih h = (0, refl, q)
+    go false e q ih h = let z = ih refl in (suc (z .0), ap suc (z .1), z .2)
+
+pub split-digits : (s : List ℕ) → every isDigit (drop (suffixStart s) s) ≡ true
+unfolding suffixStart every
+split-digits s = go (every isDigit s)
+  where
+    go : (d : Bool) → every isDigit (drop (cond d (length s) (lastEnd s)) s) ≡ true
+    go true = rw drop-length
+    go false = last-digits s
+
+pub split-before : (s : List ℕ) → (every isDigit s ≡ true) ⊎ (isDigit (getD s (suffixStart s - 1) 0) ≡ false)
+unfolding suffixStart
+split-before s = go (every isDigit s) refl
+  where
+    go : (d : Bool) → every isDigit s ≡ d → (d ≡ true) ⊎ (isDigit (getD s (cond d (length s) (lastEnd s) - 1) 0) ≡ false)
+    go true e = inl refl
+    go false e = let z = last-plain s e in inr (rw (z .1, sub-one) (z .2))
 
 pub starts-within′ : (s : List ℕ) (i : ℕ) → i ≡ suffixStart s → i ≤ length s
 starts-within′ s i e = rw e (starts-within s)

@@ -1,4 +1,4 @@
 pub mod Run
 pub mod Mnemonic
 pub mod Spelling
-pub mod Examples
+pub mod Claims

@@ -4,6 +4,7 @@ use mathlib.Core.List.{List, [], _∷_}
 use mathlib.Core.Bool.{Bool, true, false, cond, not, _&&_, _||_}
 use lib.ListN.{length, take, drop}
 use lib.Dec.{eqb}
+use Rattle.kind.specs.Text.{ascii}
 use Rattle.kind.specs.Class.{isCapital, isSmall, isDigit}
 use Rattle.util.specs.Run.{every}
 
@@ -59,7 +60,7 @@ suffix s = drop (suffixStart s) s
 
 -- SCPI-99 6.2.5.2: suffixes are the same where they are equal; none means 1
 unfoldable pub sameSuffix : List ℕ → List ℕ → Bool
-sameSuffix x y = same x y || (same x [] && same y (49 ∷ []) || same x (49 ∷ []) && same y [])
+sameSuffix x y = same x y || (same x [] && same y (ascii "1") || same x (ascii "1") && same y [])
 
 -- the texts compare as they stand, or their stems do and their suffixes are the same
 unfoldable pub matches : List ℕ → List ℕ → Bool

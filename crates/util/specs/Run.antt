@@ -1,4 +1,4 @@
--- Runs: how far a class of characters goes. The standard's grammar is written in such repetitions, IEEE 488.2 7.1.2.
+-- Runs: how far a class of characters goes. The loops of the standard's diagrams are such runs.
 use Prim.Native.Nat.{ℕ, suc, _+_}
 use mathlib.Core.List.{List, [], _∷_}
 use mathlib.Core.Bool.{Bool, true, cond, _&&_}

@@ -3,10 +3,10 @@ use Prim.Native.Nat.{ℕ}
 use mathlib.Core.Path.{_≡_}
 use mathlib.Core.Logic.{_⊎_}
 use mathlib.Core.List.{List, [], _∷_, _++_}
-use mathlib.Core.Bool.{Bool, true, false, not, _&&_, _||_}
+use mathlib.Core.Bool.{Bool, true, false, _&&_, _||_}
 use lib.ListN.{take, getD}
-use lib.Dec.{eqb}
-use Rattle.kind.specs.Class.{isCapital, isSmall, isDigit}
+use Rattle.kind.specs.Text.{ascii}
+use Rattle.kind.specs.Class.{is, isCapital, isSmall, isDigit}
 use Rattle.util.specs.Run.{run, every}
 use Rattle.util.specs.Mnemonic.{alike, notSmall, stem, suffix, sameSuffix}
 
@@ -17,12 +17,12 @@ pub record Name (n : List ℕ) : Type 0 where
   pub smalls : List ℕ
   pub digits : List ℕ
   pub parts : n ≡ star ++ (capitals ++ (smalls ++ digits))
-  pub star-or-none : (star ≡ []) ⊎ (star ≡ 42 ∷ [])
+  pub star-or-none : (star ≡ []) ⊎ (star ≡ ascii "*")
   pub some-capital : capitals ≡ [] → ⊥
   pub all-capital : every isCapital capitals ≡ true
   pub all-small : every isSmall smalls ≡ true
   pub all-digit : every isDigit digits ≡ true
-  pub no-zero : eqb (getD digits 0 0) 48 ≡ false
+  pub no-zero : is "0" (getD digits 0 0) ≡ false
 
 -- SCPI-99 6.2.1: the long form is all that stands before the suffix, the short form what stands there before the small letters
 abbrev pub long : List ℕ → List ℕ

@@ -1,6 +1,6 @@
 // Runs that the readers pass over, and mnemonics. tokenizer/util.rs of the original.
 ghost use mathlib.Core.Path.{_≡_};
-ghost use mathlib.Core.List.{[], _∷_};
+ghost use Rattle.kind.specs.Text.{ascii};
 ghost use Rattle.kind.specs.Class.{isWhiteSpace, isDigit};
 ghost use Rattle.util.specs.Run.{runEnd, signEnd, every};
 ghost use Rattle.util.specs.Mnemonic.{folded, sameLetter, alike, same, notSmall, optional, compares, suffixStart, matches};
@@ -9,28 +9,28 @@ ghost use Rattle.util.specs.Mnemonic.{folded, sameLetter, alike, same, n
 pub fn skip_ws(s: &[u8], at: usize) -> usize
     ensures { λ r. ⌜ r ≡ runEnd isWhiteSpace (now (s .entry)) at ⌝ }
 {
-    let mut i = at;
-    while i < s.len() {
-        if !kind::is_white_space(s[i]) {
-            return i;
+    let mut next = at;
+    while next < s.len() {
+        if !kind::is_white_space(s[next]) {
+            return next;
         }
-        i += 1;
+        next += 1;
     }
-    i
+    next
 }
 
 // The place behind the digits that begin at a place.
 pub fn skip_digits(s: &[u8], at: usize) -> usize
     ensures { λ r. ⌜ r ≡ runEnd isDigit (now (s .entry)) at ⌝ }
 {
-    let mut i = at;
-    while i < s.len() {
-        if !kind::is_digit(s[i]) {
-            return i;
+    let mut end = at;
+    while end < s.len() {
+        if !kind::is_digit(s[end]) {
+            return end;
         }
-        i += 1;
+        end += 1;
     }
-    i
+    end
 }
 
 // The place behind a sign, where one stands at the place.
@@ -173,7 +173,7 @@ pub fn mnemonic_split_index(mnemonic: &[u8]) -> usize
 
 // The numeric suffix that means the same as none.
 fn is_one(s: &[u8]) -> bool
-    ensures { λ r. ⌜ r ≡ same (now (s .entry)) (49 ∷ []) ⌝ }
+    ensures { λ r. ⌜ r ≡ same (now (s .entry)) (ascii "1") ⌝ }
 {
     if s.len() != 1 {
         return false;

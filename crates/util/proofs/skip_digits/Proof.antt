@@ -8,10 +8,10 @@ use Rattle.util.proofs.skip_digits.Statement.{statement}
 use Rattle.util.proofs.skip_digits.Tie as tie
 
 abbrev Inv-loop : tie.InvT-loop
-Inv-loop s at i₀ i = runEnd isDigit s at ≡ runEnd isDigit s i
+Inv-loop s at end₀ end = runEnd isDigit s at ≡ runEnd isDigit s end
 
 abbrev μ-loop : tie.MeasureT-loop
-μ-loop s at i₀ i = length s - i
+μ-loop s at end₀ end = length s - end
 
 loop-holds : tie.Need-loop-holds Inv-loop μ-loop
 loop-holds c = search laws
@@ -25,8 +25,8 @@ is-digit-requires c κs = search laws
 returns : tie.Need-returns Inv-loop μ-loop
 returns c = search laws
 
-add-i : tie.Need-add-i Inv-loop μ-loop
-add-i c = search laws
+add-end : tie.Need-add-end Inv-loop μ-loop
+add-end c = search laws
 
 loop-less : tie.Need-loop-less Inv-loop μ-loop
 loop-less c = search laws
@@ -47,7 +47,7 @@ skip-digits-spec =
     shared-slice-read-is-digit
     is-digit-requires
     returns
-    add-i
+    add-end
     loop-less
     loop-again
     returns-2)

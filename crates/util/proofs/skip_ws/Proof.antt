@@ -8,10 +8,10 @@ use Rattle.util.proofs.skip_ws.Statement.{statement}
 use Rattle.util.proofs.skip_ws.Tie as tie
 
 abbrev Inv-loop : tie.InvT-loop
-Inv-loop s at i₀ i = runEnd isWhiteSpace s at ≡ runEnd isWhiteSpace s i
+Inv-loop s at next₀ next = runEnd isWhiteSpace s at ≡ runEnd isWhiteSpace s next
 
 abbrev μ-loop : tie.MeasureT-loop
-μ-loop s at i₀ i = length s - i
+μ-loop s at next₀ next = length s - next
 
 loop-holds : tie.Need-loop-holds Inv-loop μ-loop
 loop-holds c = search laws
@@ -25,8 +25,8 @@ is-white-space-requires c κs = search laws
 returns : tie.Need-returns Inv-loop μ-loop
 returns c = search laws
 
-add-i : tie.Need-add-i Inv-loop μ-loop
-add-i c = search laws
+add-next : tie.Need-add-next Inv-loop μ-loop
+add-next c = search laws
 
 loop-less : tie.Need-loop-less Inv-loop μ-loop
 loop-less c = search laws
@@ -47,7 +47,7 @@ skip-ws-spec =
     shared-slice-read-is-white-space
     is-white-space-requires
     returns
-    add-i
+    add-next
     loop-less
     loop-again
     returns-2)

@@ -1,0 +1,32 @@
+-- The claims.
+use Prim.Native.Nat.{ℕ, _-_, _≤_, _<_}
+use mathlib.Core.Path.{_≡_, refl, sym, _∙_}
+use mathlib.Core.Logic.{_⊎_, inl, inr}
+use mathlib.Core.List.{List}
+use mathlib.Core.Bool.{Bool, true, false}
+use lib.ListN.{take-append-drop}
+use Rattle.kind.specs.Class.{isCapital, isSmall, isDigit}
+use Rattle.util.specs.Run.{every}
+use Rattle.util.specs.Mnemonic.{pairs, folded, sameLetter, notSmall, optional, compares, lastEnd, suffixStart, sameSuffix, matches}
+use Rattle.util.specs.Claims.{Split, Rows, Claims}
+use Rattle.util.proofs.Split.{split-digits, split-before}
+use Rattle.util.proofs.Spelling.{match-spells, forms-of}
+
+splits : (s : List ℕ) → Split s
+splits s = record { whole = take-append-drop (suffixStart s) s; digits = split-digits s; before = split-before s }
+
+rows : Rows
+unfolding matches compares suffixStart lastEnd sameSuffix pairs every folded sameLetter notSmall optional isCapital isSmall isDigit
+rows =
+    record {
+      short-word = refl;
+      long-word = refl;
+      between = refl;
+      number = refl;
+      no-number = refl;
+      one = refl;
+      one-with-zero = refl;
+    }
+
+pub claims : Claims
+claims = record { splits = splits; forms = forms-of; match-spells = λ n w name. match-spells n name w; rows = rows }

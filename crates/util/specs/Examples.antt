@@ -1,1 +1,0 @@
--- Rows 3 and 4 of the worked examples.

@@ -1,0 +1,139 @@
+//! Names: `M name word`, answered by what mnemonic_match and mnemonic_compare say of the word for the name.
+
+use super::Cases;
+use crate::random::Random;
+use crate::request::request;
+use crate::text::{damaged, pairs, random_text, recased, split_tail, ALL, BORDERS};
+
+pub const RESTART: Option<usize> = None;
+
+/// Names have no listed difference.
+pub fn listed(_request: &str, _rust: &str, _port: &str) -> Option<&'static str> {
+    None
+}
+
+/// Of N cases at most half are short pairs, all there are, in order. The rest is halved: first random pairs, then pairs
+/// that are good or damaged.
+pub fn cases(n: usize, seed: u64) -> Cases {
+    let short = short_pairs().take(n / 2).count();
+    let random = (n - short) / 2;
+    let rest = n - short - random;
+    Box::new(
+        short_pairs()
+            .take(short)
+            .chain(random_pairs(seed).take(random))
+            .chain(spelled_pairs(seed).take(rest))
+            .map(|(name, word)| request("M", &[&name, &word])),
+    )
+}
+
+type Pair = (Vec<u8>, Vec<u8>);
+
+fn short_pairs() -> impl Iterator<Item = Pair> + Send {
+    pairs(b"Aa1", 0..=4)
+        .chain(pairs(b"Ab01*_", 0..=3))
+        .chain(pairs(b"Aa1", 5..=5))
+}
+
+/// The longest text of a request. One random pair in so many has that length.
+const LONGEST: usize = 65_535;
+const LONGEST_ONE_IN: usize = 8_192;
+
+const POOLS: [&[u8]; 6] = [
+    b"Aa1",
+    b"ABYZabyz0189*_",
+    b"019",
+    BORDERS,
+    ALL.split_at(128).1,
+    &ALL,
+];
+
+/// Pairs of lengths around every limit. Most words are made from the name, so that the two agree for a while.
+fn random_pairs(seed: u64) -> impl Iterator<Item = Pair> + Send {
+    let mut random = Random::new(seed, 1);
+    (1..).map(move |i| {
+        let random = &mut random;
+        let mut length = || match i % LONGEST_ONE_IN {
+            0 => LONGEST,
+            _ if random.one_in(8) => random.pick(&[255, 256, 257]),
+            _ => random.pick(&[0, 1, 2, 3, 10, 11, 12, 13]),
+        };
+        let (name_length, word_length) = (length(), length());
+        let pool = random.pick(&POOLS);
+        let name = match random.below(3) {
+            0 if name_length > 0 => table_name(random, name_length),
+            _ => random_text(random, pool, name_length),
+        };
+        let mut word = match random.below(5) {
+            0 => random_text(random, pool, word_length),
+            1 => recased(random, name.clone()),
+            2 => {
+                let end = random.below(name.len() + 1);
+                recased(random, name[..end].to_vec())
+            }
+            3 => spelled(random, &name),
+            _ => damaged(random, name.clone()),
+        };
+        word.truncate(LONGEST);
+        (name, word)
+    })
+}
+
+/// Names as a table has them with words that spell them. One pair in four is good, the others have a fault or two.
+fn spelled_pairs(seed: u64) -> impl Iterator<Item = Pair> + Send {
+    let mut random = Random::new(seed, 2);
+    std::iter::from_fn(move || {
+        let random = &mut random;
+        let length = 1 + random.below(12);
+        let mut name = table_name(random, length);
+        let mut word = spelled(random, &name);
+        match random.below(4) {
+            0 => {}
+            1 => word = damaged(random, word),
+            2 => name = damaged(random, name),
+            _ => {
+                name = damaged(random, name);
+                word = damaged(random, word);
+            }
+        }
+        Some((name, word))
+    })
+}
+
+/// A name of that length, at least 1: perhaps a star, one or more capitals, small letters, digits that do not begin with 0.
+fn table_name(random: &mut Random, length: usize) -> Vec<u8> {
+    let star: &[u8] = if length > 1 && random.one_in(6) {
+        b"*"
+    } else {
+        b""
+    };
+    let mut tail = random.pick::<&[u8]>(&[b"", b"", b"", b"1", b"1", b"2", b"10", b"11", b"21"]);
+    if star.len() + tail.len() >= length {
+        tail = b"";
+    }
+    let letters = length - star.len() - tail.len();
+    let capitals = 1 + random.below(letters);
+    let mut name = star.to_vec();
+    for i in 0..letters {
+        let pool = if i < capitals { b"ABCZ" } else { b"abcz" };
+        name.push(random.pick(pool));
+    }
+    name.extend(tail);
+    name
+}
+
+/// A word for a table name: the short or the long form in any case, with the number, or with a 1 added or dropped.
+fn spelled(random: &mut Random, name: &[u8]) -> Vec<u8> {
+    let (stem, tail) = split_tail(name);
+    let mut word = stem.to_vec();
+    if random.one_in(2) {
+        word.retain(|b| !b.is_ascii_lowercase());
+    }
+    word = recased(random, word);
+    match tail {
+        b"" if random.one_in(2) => word.push(b'1'),
+        b"1" if random.one_in(2) => {}
+        _ => word.extend(tail),
+    }
+    word
+}

@@ -1,0 +1,83 @@
+//! Gives the same requests to the Rust original and to the port, and compares their answers line by line.
+
+mod compare;
+mod kinds;
+mod random;
+mod request;
+mod text;
+
+use std::io::{BufWriter, Write};
+use std::process::ExitCode;
+
+use kinds::{Kind, KINDS};
+
+/// Exit status 0: as it should be. 1: differences that are not listed. 2: bad usage, or a program failed.
+fn main() -> ExitCode {
+    let words: Vec<String> = std::env::args().skip(1).collect();
+    let words: Vec<&str> = words.iter().map(String::as_str).collect();
+    match run(&words) {
+        Ok(true) => ExitCode::SUCCESS,
+        Ok(false) => ExitCode::from(1),
+        Err(message) => {
+            eprintln!("judge: {message}");
+            ExitCode::from(2)
+        }
+    }
+}
+
+fn run(words: &[&str]) -> Result<bool, String> {
+    match words {
+        ["--questions", file] => questions(file),
+        [kind, n, seed, "--emit"] => {
+            let (kind, n, seed) = asked(kind, n, seed)?;
+            emit((kind.cases)(n, seed).map(String::into_bytes))
+        }
+        [kind, n, seed, "--rust", rust, "--port", port @ ..] if !port.is_empty() => {
+            let (kind, n, seed) = asked(kind, n, seed)?;
+            compare::compare(kind, n, seed, &[rust], port)
+        }
+        _ => Err(usage()),
+    }
+}
+
+fn usage() -> String {
+    let names: Vec<&str> = KINDS.iter().map(|kind| kind.name).collect();
+    format!(
+        "usage:\n  \
+         judge KIND N SEED --rust PROGRAM --port PROGRAM [ARG..]   compare N cases\n  \
+         judge KIND N SEED --emit                                  print their request lines\n  \
+         judge --questions FILE                                    print the request lines of a file of questions\n\
+         KIND is one of: {}; N is at least 1",
+        names.join(" ")
+    )
+}
+
+fn asked(kind: &str, n: &str, seed: &str) -> Result<(&'static Kind, usize, u64), String> {
+    let kind = KINDS.iter().find(|k| k.name == kind).ok_or_else(usage)?;
+    let n = n.parse().ok().filter(|n| *n > 0).ok_or_else(usage)?;
+    Ok((kind, n, seed.parse().map_err(|_| usage())?))
+}
+
+/// Prints the questions of a file; empty lines and lines that begin with `#` are left out.
+fn questions(file: &str) -> Result<bool, String> {
+    let text = std::fs::read_to_string(file).map_err(|e| format!("{file}: {e}"))?;
+    let mut requests = vec![];
+    for (i, line) in text.lines().enumerate() {
+        if !line.is_empty() && !line.starts_with('#') {
+            requests.push(
+                request::read(line).ok_or_else(|| format!("{file}:{}: not a question", i + 1))?,
+            );
+        }
+    }
+    emit(requests.into_iter())
+}
+
+fn emit(requests: impl Iterator<Item = Vec<u8>>) -> Result<bool, String> {
+    let mut out = BufWriter::new(std::io::stdout().lock());
+    for mut request in requests {
+        request.push(b'\n');
+        out.write_all(&request).map_err(|e| e.to_string())?;
+    }
+    out.flush().map_err(|e| e.to_string())?;
+    Ok(true)
+}

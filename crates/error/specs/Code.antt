@@ -8,7 +8,7 @@ use Rattle.error.specs.declared.ErrorCode.the-variants.{InvalidCharacter
 abbrev pub minus : ℕ → ℤ
 minus n = negℤ (pos n)
 
--- SCPI-99 21.8.9 and 21.8.10 below zero; above zero the port's own
+-- SCPI-99 21.8 below zero; above zero the table faults, 1 to 6, and what only this reader refuses
 abbrev pub codeOf : ErrorCode → ℤ
 codeOf InvalidCharacter = minus 101
 codeOf SyntaxError = minus 102

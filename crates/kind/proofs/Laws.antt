@@ -4,13 +4,13 @@ use mathlib.Core.Path.{_≡_}
 use mathlib.Core.Bool.{Bool}
 use borrow.Author.Needs.{needs}
 use lib.Dec.{T, eqb, leb}
-use Rattle.kind.specs.Class.{isWhiteSpace, isCapital, isSmall, isDigit, isLetter, isMnemonic, isSign, isQuote, isAscii}
+use Rattle.kind.specs.Class.{isWhiteSpace, isCapital, isSmall, isDigit, isLetter, inMnemonic, isSign, isQuote, isAscii}
 use Rattle.kind.specs.Kind.{kindOf, blank, underscore, small, capital, digit, sign}
 use Rattle.kind.proofs.Bytes.{agree, agrees}
 
 -- `unfolding computed` opens all that a test over the kinds computes with
 computed : Unit {0}
-unfolding kindOf isMnemonic isLetter isWhiteSpace isCapital isSmall isDigit isSign isQuote isAscii
+unfolding kindOf inMnemonic isLetter isWhiteSpace isCapital isSmall isDigit isSign isQuote isAscii
 computed = tt
 
 module _ (b k : ℕ) (h : b < 256) (e : k ≡ kindOf b) where
@@ -21,9 +21,9 @@ module _ (b k : ℕ) (h : b < 256) (e : k ≡ kindOf b) where
   unfolding computed
   white-space′ = by-kind (λ x. leb x blank) isWhiteSpace tt
 
-  pub mnemonic′ : leb underscore k ≡ isMnemonic b
+  pub mnemonic′ : leb underscore k ≡ inMnemonic b
   unfolding computed
-  mnemonic′ = by-kind (λ x. leb underscore x) isMnemonic tt
+  mnemonic′ = by-kind (λ x. leb underscore x) inMnemonic tt
 
   pub letter′ : leb small k ≡ isLetter b
   unfolding computed

@@ -1,12 +1,14 @@
--- The kind of a byte: which token of IEEE 488.2 chapter 7 it may begin.
+-- The kind of a byte: the characters that the token step tells apart.
 use Prim.Native.Nat.{ℕ}
 use mathlib.Core.Bool.{cond}
 use Rattle.kind.specs.Class.{is, isWhiteSpace, isCapital, isSmall, isDigit, isSign, isQuote, isAscii}
 
--- the numbers of the kinds, so laid out that each class of several kinds is a range
+-- The numbers of the kinds. White space is the first two, letters the last two, and what may stand in a mnemonic the last four.
+
 abbrev pub newline : ℕ
 newline = 0
 
+-- white space but for newline
 abbrev pub blank : ℕ
 blank = 1
 
@@ -37,12 +39,15 @@ hash = 9
 abbrev pub quote : ℕ
 quote = 10
 
-abbrev pub bracket : ℕ
-bracket = 11
+-- the one that opens
+abbrev pub parenthesis : ℕ
+parenthesis = 11
 
+-- the rest of ASCII
 abbrev pub other : ℕ
 other = 12
 
+-- no ASCII
 abbrev pub beyond : ℕ
 beyond = 13
 
@@ -58,7 +63,7 @@ small = 16
 abbrev pub capital : ℕ
 capital = 17
 
--- each byte has one kind; `other` is the rest of ASCII, `beyond` what is no ASCII
+-- each byte has one kind
 unfoldable pub kindOf : ℕ → ℕ
 kindOf b =
     cond (is "\n" b) newline
@@ -72,7 +77,7 @@ kindOf b =
     (cond (is "." b) point
     (cond (is "#" b) hash
     (cond (isQuote b) quote
-    (cond (is "(" b) bracket
+    (cond (is "(" b) parenthesis
     (cond (is "_" b) underscore
     (cond (isDigit b) digit
     (cond (isSmall b) small

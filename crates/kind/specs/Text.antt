@@ -5,7 +5,7 @@ use Prim.Native.String.{String}
 use Prim.Native.String as String
 use mathlib.Core.List.{List, [], _∷_}
 
--- the bytes of a text in ASCII
+-- the bytes of a text of ASCII characters
 abbrev pub ascii : String → List ℕ
 ascii String.[] = []
 ascii (String._∷_ c s) = code c ∷ ascii s

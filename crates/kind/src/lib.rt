@@ -2,11 +2,11 @@
 mod table;
 
 ghost use mathlib.Core.Path.{_≡_};
-ghost use Rattle.kind.specs.Class.{isWhiteSpace, isCapital, isSmall, isDigit, isLetter, isMnemonic, isSign};
+ghost use Rattle.kind.specs.Class.{isWhiteSpace, isCapital, isSmall, isDigit, isLetter, inMnemonic, isSign};
 ghost use Rattle.kind.specs.Kind.{kindOf};
 use table::KINDS;
 
-// The kinds. A class of several is a range: white space, then what may stand in a mnemonic at the top.
+// The kinds. White space is the first two, letters the last two, and what may stand in a mnemonic the last four.
 pub const NEWLINE: u8 = 0;
 
 pub const BLANK: u8 = 1;
@@ -29,7 +29,7 @@ pub const HASH: u8 = 9;
 
 pub const QUOTE: u8 = 10;
 
-pub const BRACKET: u8 = 11;
+pub const PARENTHESIS: u8 = 11;
 
 pub const OTHER: u8 = 12;
 
@@ -56,8 +56,8 @@ pub fn is_white_space(b: u8) -> bool
     kind(b) <= BLANK
 }
 
-pub fn is_mnemonic(b: u8) -> bool
-    ensures { λ r. ⌜ r ≡ isMnemonic b ⌝ }
+pub fn in_mnemonic(b: u8) -> bool
+    ensures { λ r. ⌜ r ≡ inMnemonic b ⌝ }
 {
     UNDERSCORE <= kind(b)
 }

@@ -1,4 +1,4 @@
--- Texts alike in either case have the same digits, and so the same suffix; and where a suffix starts.
+-- Texts alike in either case have the same digits, and so the same suffix; and where a numericSuffix starts.
 use Prim.Native.Nat.{ℕ, zero, suc, pred, _+_, _≤_, _<_}
 use mathlib.Core.Path.{_≡_, refl, sym, ap₂, _∙_}
 use mathlib.Core.Logic.{_⊎_, inl, inr}
@@ -13,7 +13,7 @@ use Rattle.kind.specs.Class.{isCapital, isSmall, isDigit}
 use Rattle.kind.proofs.Tests.{both-ways, or-left, and-left, and-right, and-both}
 use Rattle.kind.proofs.Classes.{digit-no-capital, small-no-digit}
 use Rattle.util.specs.Run.{every}
-use Rattle.util.specs.Mnemonic.{pairs, folded, sameLetter, alike, lastEnd, suffixStart, sameSuffix}
+use Rattle.util.specs.Mnemonic.{pairs, folded, eitherCase, alike, lastEnd, numericSuffixStart, sameNumericSuffix}
 use Rattle.util.proofs.Pairs.{long}
 use Rattle.util.proofs.Split.{stop-at}
 
@@ -46,12 +46,12 @@ same-digit c d e =
 
 module _ (c d : ℕ) (x y : List ℕ) (e : alike (c ∷ x) (d ∷ y) ≡ true) where
   first-folds : folded c ≡ folded d
-  unfolding pairs sameLetter
-  first-folds = eqb-true (folded c) (folded d) (and-left (eqb (folded c) (folded d)) (pairs sameLetter x y) e)
+  unfolding pairs eitherCase
+  first-folds = eqb-true (folded c) (folded d) (and-left (eqb (folded c) (folded d)) (pairs eitherCase x y) e)
 
   rest-alike : alike x y ≡ true
   unfolding pairs
-  rest-alike = and-right (sameLetter c d) (pairs sameLetter x y) e
+  rest-alike = and-right (eitherCase c d) (pairs eitherCase x y) e
 
 no-pair : (c : ℕ) (x : List ℕ) → alike (c ∷ x) [] ≡ true → ⊥
 unfolding pairs
@@ -76,9 +76,9 @@ alike-last (c ∷ x) [] e = absurd (no-pair c x e)
 alike-last (c ∷ x) (d ∷ y) e =
     rw (same-digit c d (first-folds c d x y e), alike-digits x y (rest-alike c d x y e), alike-last x y (rest-alike c d x y e))
 
-pub alike-start : (x y : List ℕ) → alike x y ≡ true → suffixStart x ≡ suffixStart y
-unfolding suffixStart
-alike-start x y e = rw (alike-digits x y e, alike-last x y e, long sameLetter x y e)
+pub alike-start : (x y : List ℕ) → alike x y ≡ true → numericSuffixStart x ≡ numericSuffixStart y
+unfolding numericSuffixStart
+alike-start x y e = rw (alike-digits x y e, alike-last x y e, long eitherCase x y e)
 
 pub alike-equal : (x y : List ℕ) → alike x y ≡ true → every isDigit x ≡ true → x ≡ y
 unfolding every
@@ -96,7 +96,7 @@ alike-take (suc i) [] [] e = refl
 alike-take (suc i) [] (d ∷ y) e = absurd (false≢true e)
 alike-take (suc i) (c ∷ x) [] e = absurd (false≢true e)
 alike-take (suc i) (c ∷ x) (d ∷ y) e =
-    and-both (and-left (sameLetter c d) (pairs sameLetter x y) e) (alike-take i x y (and-right (sameLetter c d) (pairs sameLetter x y) e))
+    and-both (and-left (eitherCase c d) (pairs eitherCase x y) e) (alike-take i x y (and-right (eitherCase c d) (pairs eitherCase x y) e))
 
 pub alike-drop : (i : ℕ) (x y : List ℕ) → alike x y ≡ true → alike (drop i x) (drop i y) ≡ true
 alike-drop zero x y e = e
@@ -110,8 +110,8 @@ unfolding pairs
 same-itself [] = refl
 same-itself (c ∷ x) = and-both (eq-eqb c c refl) (same-itself x)
 
-pub suffix-itself : (x y : List ℕ) → x ≡ y → sameSuffix x y ≡ true
-unfolding sameSuffix
+pub suffix-itself : (x y : List ℕ) → x ≡ y → sameNumericSuffix x y ≡ true
+unfolding sameNumericSuffix
 suffix-itself x y e = or-left {a = pairs eqb x y} _ (rw e (same-itself y))
 
 -- a text that ends in no digit
@@ -123,7 +123,7 @@ pub record Ends (x : List ℕ) : Type 0 where
   pub plain : isDigit last ≡ false
 
 -- digits behind it are its suffix
-pub start-behind : (x d : List ℕ) → Ends x → every isDigit d ≡ true → suffixStart (x ++ d) ≡ length x
+pub start-behind : (x d : List ℕ) → Ends x → every isDigit d ≡ true → numericSuffixStart (x ++ d) ≡ length x
 start-behind x d e h = stop-at (x ++ d) (length x) (rw length-append (omega arith)) (rw (drop-append-seam x d) h) some last-plain
   where
     size : length x ≡ length (e .front) + 1

@@ -13,7 +13,7 @@ use borrow.Author.Tests.{leb-true}
 use Rattle.kind.specs.Class.{isCapital, isSmall, isDigit}
 use Rattle.kind.proofs.Tests.{and-right}
 use Rattle.kind.proofs.Classes.{small-no-capital, small-no-digit, digit-no-capital, capital-no-small}
-use Rattle.util.specs.Mnemonic.{pairs, folded, sameLetter, notSmall, optional}
+use Rattle.util.specs.Mnemonic.{pairs, folded, eitherCase, notSmall, mayLeaveOut}
 use Rattle.util.proofs.Pairs.{differ}
 
 module _ (b : ℕ) (r : Bool) where
@@ -30,21 +30,21 @@ module _ (b : ℕ) (r : Bool) where
     unfolding folded
     folded-other′ q = rw (← e, q)
 
-    pub optional-capital′ : r ≡ true → false ≡ optional b
-    unfolding optional
-    optional-capital′ q = rw (← e, q)
+    pub left-out-capital′ : r ≡ true → false ≡ mayLeaveOut b
+    unfolding mayLeaveOut
+    left-out-capital′ q = rw (← e, q)
 
-    pub optional-other′ : (d : Bool) → d ≡ isDigit b → r ≡ false → not d ≡ optional b
-    unfolding optional
-    optional-other′ d f q = rw (← e, q, f)
+    pub left-out-other′ : (d : Bool) → d ≡ isDigit b → r ≡ false → not d ≡ mayLeaveOut b
+    unfolding mayLeaveOut
+    left-out-other′ d f q = rw (← e, q, f)
 
   pub not-small′ : r ≡ isSmall b → not r ≡ notSmall b
   unfolding notSmall
   not-small′ e = rw e
 
-pub same-letter′ : (c d x y : ℕ) → x ≡ folded c → y ≡ folded d → eqb x y ≡ sameLetter c d
-unfolding sameLetter
-same-letter′ c d x y e f = rw (e, f)
+pub is-either-case′ : (c d x y : ℕ) → x ≡ folded c → y ≡ folded d → eqb x y ≡ eitherCase c d
+unfolding eitherCase
+is-either-case′ c d x y e f = rw (e, f)
 
 module _ (s : List ℕ) where
   pub one-long′ : (length s ≡ 1 → ⊥) → false ≡ pairs eqb s (49 ∷ [])
@@ -60,16 +60,16 @@ module _ (s : List ℕ) where
       go (c ∷ d ∷ s) h = absurd (omega arith)
 
 module _ (b : ℕ) where
-  pub small-optional : isSmall b ≡ true → optional b ≡ true
-  unfolding optional
-  small-optional e = rw (small-no-capital b e, small-no-digit b e)
+  pub small-left-out : isSmall b ≡ true → mayLeaveOut b ≡ true
+  unfolding mayLeaveOut
+  small-left-out e = rw (small-no-capital b e, small-no-digit b e)
 
-  pub capital-needed : isCapital b ≡ true → optional b ≡ false
-  unfolding optional
+  pub capital-needed : isCapital b ≡ true → mayLeaveOut b ≡ false
+  unfolding mayLeaveOut
   capital-needed e = rw e
 
-  pub digit-needed : isDigit b ≡ true → optional b ≡ false
-  unfolding optional
+  pub digit-needed : isDigit b ≡ true → mayLeaveOut b ≡ false
+  unfolding mayLeaveOut
   digit-needed e = rw (digit-no-capital b e, e)
 
   pub capital-not-small : isCapital b ≡ true → notSmall b ≡ true
@@ -80,4 +80,4 @@ module _ (b : ℕ) where
   unfolding notSmall
   small-is-small e = rw e
 
-pub ruleset laws = (needs, folded-capital′, folded-fits′, folded-other′, optional-capital′, optional-other′, not-small′, same-letter′, one-long′, one-is′)
+pub ruleset laws = (needs, folded-capital′, folded-fits′, folded-other′, left-out-capital′, left-out-other′, not-small′, is-either-case′, one-long′, one-is′)

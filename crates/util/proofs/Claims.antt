@@ -7,16 +7,16 @@ use mathlib.Core.Bool.{Bool, true, false}
 use lib.ListN.{take-append-drop}
 use Rattle.kind.specs.Class.{isCapital, isSmall, isDigit}
 use Rattle.util.specs.Run.{every}
-use Rattle.util.specs.Mnemonic.{pairs, folded, sameLetter, notSmall, optional, compares, lastEnd, suffixStart, sameSuffix, matches}
+use Rattle.util.specs.Mnemonic.{pairs, folded, eitherCase, notSmall, mayLeaveOut, compares, lastEnd, numericSuffixStart, sameNumericSuffix, matches}
 use Rattle.util.specs.Claims.{Split, Rows, Claims}
-use Rattle.util.proofs.Split.{split-digits, split-before}
+use Rattle.util.proofs.Split.{starts-within, split-digits, split-before}
 use Rattle.util.proofs.Spelling.{match-spells, forms-of}
 
 splits : (s : List ℕ) → Split s
-splits s = record { whole = take-append-drop (suffixStart s) s; digits = split-digits s; before = split-before s }
+splits s = record { inside = starts-within s; whole = take-append-drop (numericSuffixStart s) s; digits = split-digits s; before = split-before s }
 
 rows : Rows
-unfolding matches compares suffixStart lastEnd sameSuffix pairs every folded sameLetter notSmall optional isCapital isSmall isDigit
+unfolding matches compares numericSuffixStart lastEnd sameNumericSuffix pairs every folded eitherCase notSmall mayLeaveOut isCapital isSmall isDigit
 rows =
     record {
       short-word = refl;

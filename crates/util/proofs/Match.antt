@@ -9,23 +9,23 @@ use lib.Seq.{take-length, drop-length}
 use lib.Dec.{eqb}
 use borrow.Author.Needs.{needs}
 use borrow.Author.Tests.{not-true, not-false}
-use Rattle.util.specs.Mnemonic.{pairs, compares, suffixStart, sameSuffix, matches}
+use Rattle.util.specs.Mnemonic.{pairs, compares, numericSuffixStart, sameNumericSuffix, matches}
 use Rattle.util.proofs.Pairs.{differ}
 use Rattle.util.proofs.Split.{starts-within, starts-within′}
 use Rattle.util.proofs.Compare.{part-long′, to-end}
 
 -- a suffix beside none, and beside another
 module _ (x : List ℕ) (some : length x ≡ 0 → ⊥) where
-  pub beside-none : sameSuffix x [] ≡ pairs eqb x (49 ∷ [])
-  unfolding sameSuffix pairs
+  pub beside-none : sameNumericSuffix x [] ≡ pairs eqb x (49 ∷ [])
+  unfolding sameNumericSuffix pairs
   beside-none = rw (differ eqb x [] some) (and-true (pairs eqb x (49 ∷ [])))
 
-  pub behind-none : sameSuffix [] x ≡ pairs eqb x (49 ∷ [])
-  unfolding sameSuffix pairs
+  pub behind-none : sameNumericSuffix [] x ≡ pairs eqb x (49 ∷ [])
+  unfolding sameNumericSuffix pairs
   behind-none = rw (differ eqb [] x (λ e. some (sym e))) (or-false (pairs eqb x (49 ∷ [])))
 
-  pub beside-some : (y : List ℕ) → (length y ≡ 0 → ⊥) → sameSuffix x y ≡ pairs eqb x y
-  unfolding sameSuffix
+  pub beside-some : (y : List ℕ) → (length y ≡ 0 → ⊥) → sameNumericSuffix x y ≡ pairs eqb x y
+  unfolding sameNumericSuffix
   beside-some y other = rw (differ eqb x [] some, differ eqb y [] other, and-false) (or-false (pairs eqb x y))
 
 -- a test of two halves, by its second one
@@ -41,8 +41,8 @@ module _ (m s : List ℕ) (a : Bool) (first : a ≡ compares m s) where
   unfolding matches
   at-once′ q = rw (← first, q)
 
-  module _ (x y : ℕ) (px : x ≡ suffixStart m) (py : y ≡ suffixStart s) (q : a ≡ false) where
-    parted : matches m s ≡ (compares (take x m) (take y s) && sameSuffix (drop x m) (drop y s))
+  module _ (x y : ℕ) (px : x ≡ numericSuffixStart m) (py : y ≡ numericSuffixStart s) (q : a ≡ false) where
+    parted : matches m s ≡ (compares (take x m) (take y s) && sameNumericSuffix (drop x m) (drop y s))
     unfolding matches
     parted = rw (← first, q, ← px, ← py)
 

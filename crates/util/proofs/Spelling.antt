@@ -11,10 +11,10 @@ use Rattle.kind.specs.Class.{isCapital, isSmall, isDigit}
 use Rattle.kind.proofs.Tests.{both-ways, either, or-left, or-right, and-left, and-right, and-both, clash, less-or-not}
 use Rattle.kind.proofs.Classes.{capital-no-digit}
 use Rattle.util.specs.Run.{run, every}
-use Rattle.util.specs.Mnemonic.{pairs, sameLetter, alike, notSmall, optional, compares, suffixStart, stem, suffix, sameSuffix, matches}
+use Rattle.util.specs.Mnemonic.{pairs, eitherCase, alike, notSmall, mayLeaveOut, compares, numericSuffixStart, stem, numericSuffix, sameNumericSuffix, matches}
 use Rattle.util.specs.Spelling.{Name, long, short, spells}
 use Rattle.util.specs.Claims.{Forms}
-use Rattle.util.proofs.Bytes.{small-optional, capital-needed, digit-needed, capital-not-small, small-is-small}
+use Rattle.util.proofs.Bytes.{small-left-out, capital-needed, digit-needed, capital-not-small, small-is-small}
 use Rattle.util.proofs.Every.{every-join, every-second, every-weaker, run-whole, every-drop, no-both}
 use Rattle.util.proofs.Pairs as Pairs
 use Rattle.util.proofs.Alike.{Ends, alike-start, alike-equal, alike-take, alike-drop, suffix-itself, start-behind, ends-behind}
@@ -24,7 +24,7 @@ use Rattle.util.proofs.Alike.{Ends, alike-start, alike-equal, alike-tak
 record Short (m v : List ℕ) : Type 0 where
   fits : alike (take (length v) m) v ≡ true
   plain : every notSmall (take (length v) m) ≡ true
-  left : every optional (drop (length v) m) ≡ true
+  left : every mayLeaveOut (drop (length v) m) ≡ true
 
 compared : (m v : List ℕ) → compares m v ≡ true → (alike m v ≡ true) ⊎ Short m v
 unfolding compares
@@ -37,7 +37,7 @@ compared m v h = ⊎-elim inl (λ k. inr (short k)) (either (alike m v) _ h)
     p = every notSmall (take (length v) m)
 
     o : Bool
-    o = every optional (drop (length v) m)
+    o = every mayLeaveOut (drop (length v) m)
 
     short : (f && (p && o)) ≡ true → Short m v
     short k =
@@ -69,11 +69,11 @@ module _ (c : List ℕ) (k : ℕ) (l : List ℕ) (plain : every notSmall c ≡ t
   -- a word alike the capitals is a short form
   caps-short : (v : List ℕ) → alike caps v ≡ true → Short (caps ++ l) v
   caps-short v h =
-      let size : length v ≡ length caps = sym (Pairs.long sameLetter caps v h) in
+      let size : length v ≡ length caps = sym (Pairs.long eitherCase caps v h) in
       record {
         fits = rw (size, take-append-seam caps l) h;
         plain = rw (size, take-append-seam caps l) caps-plain;
-        left = rw (size, drop-append-seam caps l) (every-weaker isSmall optional small-optional l smalls);
+        left = rw (size, drop-append-seam caps l) (every-weaker isSmall mayLeaveOut small-left-out l smalls);
       }
 
   -- a short form has all capitals, since none may be left out
@@ -82,8 +82,8 @@ module _ (c : List ℕ) (k : ℕ) (l : List ℕ) (plain : every notSmall c ≡ t
   not-before v s h =
       let le : length v ≤ length c = omega (arith, simp length-append at h) in
       let e : drop (length v) (caps ++ l) ≡ drop (length v) c ++ (k ∷ l) = rw append-assoc (drop-append-le (length v) c (k ∷ l) le) in
-      let o = every-second optional (drop (length v) c) (k ∷ l) (rw e at (s .left)) in
-      clash (and-left (optional k) (every optional l) o) (capital-needed k cap)
+      let o = every-second mayLeaveOut (drop (length v) c) (k ∷ l) (rw e at (s .left)) in
+      clash (and-left (mayLeaveOut k) (every mayLeaveOut l) o) (capital-needed k cap)
 
   -- and no small letter
   not-behind : (v : List ℕ) → Short (caps ++ l) v → length caps < length v → ⊥
@@ -91,7 +91,7 @@ module _ (c : List ℕ) (k : ℕ) (l : List ℕ) (plain : every notSmall c ≡ t
   not-behind v s h = go l (length v - suc (length caps)) (omega arith) smalls s
     where
       go : (l : List ℕ) (j : ℕ) → length v ≡ length caps + suc j → every isSmall l ≡ true → Short (caps ++ l) v → ⊥
-      go [] j size m s = omega (arith, simp (length-take, length-append) at (Pairs.long sameLetter (take (length v) (caps ++ [])) v (s .fits)))
+      go [] j size m s = omega (arith, simp (length-take, length-append) at (Pairs.long eitherCase (take (length v) (caps ++ [])) v (s .fits)))
       go (b ∷ l) j size m s =
           let t : take (length v) (caps ++ (b ∷ l)) ≡ caps ++ (b ∷ take j l) = rw size (take-append-add caps (b ∷ l) (suc j)) in
           let o = every-second notSmall caps (b ∷ take j l) (rw t at (s .plain)) in
@@ -127,29 +127,29 @@ module _ (c : List ℕ) (k : ℕ) (l : List ℕ) (plain : every notSmall c ≡ t
     letters : List ℕ
     letters = caps ++ l
 
-    start : suffixStart (letters ++ d) ≡ length letters
+    start : numericSuffixStart (letters ++ d) ≡ length letters
     unfolding letters
     start = start-behind (caps ++ l) d letters-end digits
 
     stem-is : stem (letters ++ d) ≡ letters
     stem-is = rw start (take-append-seam letters d)
 
-    suffix-is : suffix (letters ++ d) ≡ d
+    suffix-is : numericSuffix (letters ++ d) ≡ d
     suffix-is = rw start (drop-append-seam letters d)
 
     caps-are : take (run notSmall letters) letters ≡ caps
     unfolding letters
     caps-are = rw run-caps (take-append-seam caps l)
 
-    -- the word's stem is one of the two forms, and its suffix the same
+    -- the word's stem is one of the two forms, and its numericSuffix the same
     Spelt : Type 0
-    Spelt = ((alike letters (stem w) ≡ true) ⊎ (alike caps (stem w) ≡ true)) × (sameSuffix d (suffix w) ≡ true)
+    Spelt = ((alike letters (stem w) ≡ true) ⊎ (alike caps (stem w) ≡ true)) × (sameNumericSuffix d (numericSuffix w) ≡ true)
 
     spells-spelt : spells (letters ++ d) w ≡ true → Spelt
     unfolding Spelt spells
     spells-spelt h =
         let z = rw (stem-is, suffix-is, caps-are) at h in
-        (either (alike letters (stem w)) _ (and-left _ (sameSuffix d (suffix w)) z), and-right (alike letters (stem w) || alike caps (stem w)) _ z)
+        (either (alike letters (stem w)) _ (and-left _ (sameNumericSuffix d (numericSuffix w)) z), and-right (alike letters (stem w) || alike caps (stem w)) _ z)
 
     spelt-spells : Spelt → spells (letters ++ d) w ≡ true
     unfolding Spelt spells
@@ -168,19 +168,19 @@ module _ (c : List ℕ) (k : ℕ) (l : List ℕ) (plain : every notSmall c ≡ t
     whole-spelt : alike (letters ++ d) w ≡ true → Spelt
     unfolding Spelt
     whole-spelt e =
-        let at : suffixStart w ≡ length letters = sym (alike-start (letters ++ d) w e) ∙ start in
+        let at : numericSuffixStart w ≡ length letters = sym (alike-start (letters ++ d) w e) ∙ start in
         let a = alike-take (length letters) (letters ++ d) w e in
         let b = alike-drop (length letters) (letters ++ d) w e in (
           inl (rw at (rw (take-append-seam letters d) at a)),
-          suffix-itself d (suffix w) (rw at (alike-equal d (drop (length letters) w) (rw (drop-append-seam letters d) at b) digits)),
+          suffix-itself d (numericSuffix w) (rw at (alike-equal d (drop (length letters) w) (rw (drop-append-seam letters d) at b) digits)),
         )
 
     -- a word alike the capitals of a name without suffix
     caps-spelt : d ≡ [] → alike caps w ≡ true → Spelt
-    unfolding Spelt sameSuffix pairs every
+    unfolding Spelt sameNumericSuffix pairs every
     caps-spelt none e =
-        let from : suffixStart caps ≡ length caps = rw append-nil at (start-behind caps [] caps-end refl) in
-        let at : suffixStart w ≡ length w = sym (alike-start caps w e) ∙ from ∙ Pairs.long sameLetter caps w e in
+        let from : numericSuffixStart caps ≡ length caps = rw append-nil at (start-behind caps [] caps-end refl) in
+        let at : numericSuffixStart w ≡ length w = sym (alike-start caps w e) ∙ from ∙ Pairs.long eitherCase caps w e in
         (inr (rw (at, take-length w) e), rw (at, drop-length w, none))
 
     not-inside : Short (letters ++ d) w → length letters < length w → length w < length (letters ++ d) → ⊥
@@ -188,8 +188,8 @@ module _ (c : List ℕ) (k : ℕ) (l : List ℕ) (plain : every notSmall c ≡ t
       where
         go : (j : ℕ) → length w ≡ length letters + j → ⊥
         go j size =
-            let o : every optional (drop j d) ≡ true = rw (size, drop-append-add letters d j) at (s .left) in
-            let none = no-both isDigit optional digit-needed (drop j d) (every-drop isDigit j d digits) o in
+            let o : every mayLeaveOut (drop j d) ≡ true = rw (size, drop-append-add letters d j) at (s .left) in
+            let none = no-both isDigit mayLeaveOut digit-needed (drop j d) (every-drop isDigit j d digits) o in
             omega (arith, simp length-drop at (ap length none), simp length-append at h)
 
     -- a short form of the whole name: nothing of its suffix may be left out
@@ -201,8 +201,8 @@ module _ (c : List ℕ) (k : ℕ) (l : List ℕ) (plain : every notSmall c ≡ t
         go (inr h) y = whole-spelt (rw (take-all (length w) (letters ++ d) h) at (s .fits))
         go (inl h) (inl g) = absurd (not-inside s g h)
         go (inl h) (inr g) =
-            let o = every-second optional (drop (length w) letters) d (rw (drop-append-le (length w) letters d g) at (s .left)) in
-            let none = no-both isDigit optional digit-needed d digits o in
+            let o = every-second mayLeaveOut (drop (length w) letters) d (rw (drop-append-le (length w) letters d g) at (s .left)) in
+            let none = no-both isDigit mayLeaveOut digit-needed d digits o in
             caps-spelt none (short-caps w (rw (none, append-nil) at s))
 
     matches-spelt : matches (letters ++ d) w ≡ true → Spelt
@@ -212,7 +212,7 @@ module _ (c : List ℕ) (k : ℕ) (l : List ℕ) (plain : every notSmall c ≡ t
         at-once : compares (letters ++ d) w ≡ true → Spelt
         at-once e = ⊎-elim whole-spelt short-spelt (compared (letters ++ d) w e)
 
-        parted : (compares (stem (letters ++ d)) (stem w) && sameSuffix (suffix (letters ++ d)) (suffix w)) ≡ true → Spelt
+        parted : (compares (stem (letters ++ d)) (stem w) && sameNumericSuffix (numericSuffix (letters ++ d)) (numericSuffix w)) ≡ true → Spelt
         parted e =
             let z = rw (stem-is, suffix-is) at e in
             (forms (stem w) (and-left (compares letters (stem w)) _ z), and-right (compares letters (stem w)) _ z)
@@ -280,7 +280,7 @@ module _ (n : List ℕ) (name : Name n) where
             ap short whole
             ∙ rw (stem-is before k l before-plain cap small d digit []) (caps-are before k l before-plain cap small d digit [])
             ∙ capitals-are;
-        number = ap (λ (t : List ℕ). suffix t) whole ∙ suffix-is before k l before-plain cap small d digit [];
+        number = ap (λ (t : List ℕ). numericSuffix t) whole ∙ suffix-is before k l before-plain cap small d digit [];
       }
     where
       k : ℕ

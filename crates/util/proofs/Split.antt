@@ -1,4 +1,4 @@
--- Laws of `suffixStart`, as a loop from the end meets them.
+-- Laws of `numericSuffixStart`, as a loop from the end meets them.
 use Prim.Native.Nat.{ℕ, zero, suc, pred, _-_, _≤_, _<_}
 use mathlib.Core.Path.{_≡_, refl, sym, ap, _∙_}
 use mathlib.Core.Logic.{_⊎_, inl, inr}
@@ -13,7 +13,7 @@ use borrow.Author.Needs.{needs}
 use borrow.Author.Tests.{not-true, not-false}
 use Rattle.kind.specs.Class.{isDigit}
 use Rattle.util.specs.Run.{every}
-use Rattle.util.specs.Mnemonic.{lastEnd, suffixStart}
+use Rattle.util.specs.Mnemonic.{lastEnd, numericSuffixStart}
 
 -- with a character that is no digit at i and only digits behind it
 pub not-every : (s : List ℕ) (i : ℕ) → i < length s → isDigit (getD s i 0) ≡ false → every isDigit s ≡ false
@@ -35,8 +35,8 @@ pub record Passed (s : List ℕ) (i : ℕ) : Type 0 where
   pub digits : every isDigit (drop i s) ≡ true
 
 module _ (s : List ℕ) where
-  pub stop-at : (i : ℕ) → i ≤ length s → every isDigit (drop i s) ≡ true → 0 < i → isDigit (getD s (pred i) 0) ≡ false → suffixStart s ≡ i
-  unfolding suffixStart
+  pub stop-at : (i : ℕ) → i ≤ length s → every isDigit (drop i s) ≡ true → 0 < i → isDigit (getD s (pred i) 0) ≡ false → numericSuffixStart s ≡ i
+  unfolding numericSuffixStart
   stop-at zero w d h f = absurd (not-suc-le-zero h)
   stop-at (suc i) w d h f = rw (not-every s i w f) (last-end s i w d f)
 
@@ -45,8 +45,8 @@ module _ (s : List ℕ) where
   more-at zero w d h f = absurd (not-suc-le-zero h)
   more-at (suc i) w d h f = record { within = omega arith; digits = rw (drop-cons s i 0 w, f) d }
 
-  none-at : (i : ℕ) → every isDigit (drop i s) ≡ true → i ≤ 0 → suffixStart s ≡ length s
-  unfolding suffixStart
+  none-at : (i : ℕ) → every isDigit (drop i s) ≡ true → i ≤ 0 → numericSuffixStart s ≡ length s
+  unfolding numericSuffixStart
   none-at zero d h = rw d
   none-at (suc i) d h = absurd (not-suc-le-zero h)
 
@@ -55,17 +55,17 @@ module _ (s : List ℕ) where
   begins′ = record { within = omega arith; digits = rw drop-length }
 
   module _ (i : ℕ) (inv : Passed s i) where
-    pub none′ : i ≤ 0 → length s ≡ suffixStart s
+    pub none′ : i ≤ 0 → length s ≡ numericSuffixStart s
     none′ h = sym (none-at i (inv .digits) h)
 
     module _ (r : Bool) (h : 0 < i) (e : r ≡ isDigit (getD s (i - 1) 0)) where
-      pub stop′ : not r ≡ true → i ≡ suffixStart s
+      pub stop′ : not r ≡ true → i ≡ numericSuffixStart s
       stop′ q = sym (stop-at i (inv .within) (inv .digits) h (rw sub-one at (sym e ∙ not-true r q)))
 
       pub more′ : (j : ℕ) → j ≡ i - 1 → not r ≡ false → Passed s j
       more′ j k q = rw (k, sub-one) (more-at i (inv .within) (inv .digits) h (rw sub-one at (sym e ∙ not-false r q)))
 
--- the suffix starts within the text
+-- the numericSuffix starts within the text
 pub last-within : (s : List ℕ) → lastEnd s ≤ length s
 unfolding lastEnd
 last-within [] = omega arith
@@ -76,8 +76,8 @@ last-within (b ∷ s) = go (every isDigit s) (isDigit b) (last-within s)
     go true false h = omega arith
     go false e h = omega arith
 
-pub starts-within : (s : List ℕ) → suffixStart s ≤ length s
-unfolding suffixStart
+pub starts-within : (s : List ℕ) → numericSuffixStart s ≤ length s
+unfolding numericSuffixStart
 starts-within s = go (every isDigit s) (last-within s)
   where
     go : (d : Bool) → lastEnd s ≤ length s → cond d (length s) (lastEnd s) ≤ length s
@@ -107,23 +107,23 @@ last-plain (b ∷ s) h = go (every isDigit s) (isDigit b) refl (last-plain s) h
     go true false q ih h = (0, refl, q)
     go false e q ih h = let z = ih refl in (suc (z .0), ap suc (z .1), z .2)
 
-pub split-digits : (s : List ℕ) → every isDigit (drop (suffixStart s) s) ≡ true
-unfolding suffixStart every
+pub split-digits : (s : List ℕ) → every isDigit (drop (numericSuffixStart s) s) ≡ true
+unfolding numericSuffixStart every
 split-digits s = go (every isDigit s)
   where
     go : (d : Bool) → every isDigit (drop (cond d (length s) (lastEnd s)) s) ≡ true
     go true = rw drop-length
     go false = last-digits s
 
-pub split-before : (s : List ℕ) → (every isDigit s ≡ true) ⊎ (isDigit (getD s (suffixStart s - 1) 0) ≡ false)
-unfolding suffixStart
+pub split-before : (s : List ℕ) → ((every isDigit s ≡ true) × (drop (numericSuffixStart s) s ≡ [])) ⊎ (isDigit (getD s (numericSuffixStart s - 1) 0) ≡ false)
+unfolding numericSuffixStart
 split-before s = go (every isDigit s) refl
   where
-    go : (d : Bool) → every isDigit s ≡ d → (d ≡ true) ⊎ (isDigit (getD s (cond d (length s) (lastEnd s) - 1) 0) ≡ false)
-    go true e = inl refl
+    go : (d : Bool) → every isDigit s ≡ d → ((d ≡ true) × (drop (cond d (length s) (lastEnd s)) s ≡ [])) ⊎ (isDigit (getD s (cond d (length s) (lastEnd s) - 1) 0) ≡ false)
+    go true e = inl (refl, drop-length s)
     go false e = let z = last-plain s e in inr (rw (z .1, sub-one) (z .2))
 
-pub starts-within′ : (s : List ℕ) (i : ℕ) → i ≡ suffixStart s → i ≤ length s
+pub starts-within′ : (s : List ℕ) (i : ℕ) → i ≡ numericSuffixStart s → i ≤ length s
 starts-within′ s i e = rw e (starts-within s)
 
 pub ruleset laws = (needs, begins′, none′, stop′, more′)

@@ -1,27 +1,28 @@
 -- What is proved of these definitions, besides the promises of the functions. The proofs are in proofs/Claims.
-use Prim.Native.Nat.{ℕ, _-_}
+use Prim.Native.Nat.{ℕ, _-_, _≤_}
 use mathlib.Core.Path.{_≡_}
 use mathlib.Core.Logic.{_⊎_}
-use mathlib.Core.List.{List, _++_}
+use mathlib.Core.List.{List, [], _++_}
 use mathlib.Core.Bool.{true, false}
-use lib.ListN.{getD}
+use lib.ListN.{length, getD}
 use Rattle.kind.specs.Text.{ascii}
 use Rattle.kind.specs.Class.{isDigit}
 use Rattle.util.specs.Run.{every}
-use Rattle.util.specs.Mnemonic.{suffixStart, stem, suffix, matches}
+use Rattle.util.specs.Mnemonic.{numericSuffixStart, stem, numericSuffix, matches}
 use Rattle.util.specs.Spelling.{Name, long, short, spells}
 
--- Stem and suffix make up the text, the suffix is digits, and no more digits stand before it unless the text is digits alone.
+-- Stem and numeric suffix make up the text, and the numeric suffix is all the digits that end it; but digits alone are all stem.
 pub record Split (s : List ℕ) : Type 0 where
-  pub whole : stem s ++ suffix s ≡ s
-  pub digits : every isDigit (suffix s) ≡ true
-  pub before : (every isDigit s ≡ true) ⊎ (isDigit (getD s (suffixStart s - 1) 0) ≡ false)
+  pub inside : numericSuffixStart s ≤ length s
+  pub whole : stem s ++ numericSuffix s ≡ s
+  pub digits : every isDigit (numericSuffix s) ≡ true
+  pub before : ((every isDigit s ≡ true) × (numericSuffix s ≡ [])) ⊎ (isDigit (getD s (numericSuffixStart s - 1) 0) ≡ false)
 
--- The long form of a table name is all its letters, the short form its capitals, the star with both; its suffix is its digits.
+-- The long form of a table name is all its letters, the short form its capitals, the star with both; its numeric suffix is its digits.
 pub record Forms (n : List ℕ) (name : Name n) : Type 0 where
   pub long-form : long n ≡ name .star ++ (name .capitals ++ name .smalls)
   pub short-form : short n ≡ name .star ++ name .capitals
-  pub number : suffix n ≡ name .digits
+  pub number : numericSuffix n ≡ name .digits
 
 -- Worked examples, rows 3 and 4 of the table that is proved together.
 pub record Rows : Type 0 where

@@ -14,7 +14,7 @@ run p (b ∷ s) = cond (p b) (suc (run p s)) 0
 unfoldable pub runEnd : (ℕ → Bool) → List ℕ → ℕ → ℕ
 runEnd p s at = at + run p (drop at s)
 
--- IEEE 488.2 7.7.2.2: the place behind an optional sign
+-- IEEE 488.2 7.7.2.2: the place behind an mayLeaveOut sign
 unfoldable pub signEnd : List ℕ → ℕ → ℕ
 signEnd s at = cond (isSign (getD s at 0)) (at + 1) at
 

@@ -3,7 +3,7 @@ ghost use mathlib.Core.Path.{_≡_};
 ghost use Rattle.kind.specs.Text.{ascii};
 ghost use Rattle.kind.specs.Class.{isWhiteSpace, isDigit};
 ghost use Rattle.util.specs.Run.{runEnd, signEnd, every};
-ghost use Rattle.util.specs.Mnemonic.{folded, sameLetter, alike, same, notSmall, optional, compares, suffixStart, matches};
+ghost use Rattle.util.specs.Mnemonic.{folded, eitherCase, alike, same, notSmall, mayLeaveOut, compares, numericSuffixStart, matches};
 
 // The place behind the white space that begins at a place.
 pub fn skip_ws(s: &[u8], at: usize) -> usize
@@ -56,8 +56,8 @@ fn lower(b: u8) -> u8
     b
 }
 
-fn same_letter(c: u8, d: u8) -> bool
-    ensures { λ r. ⌜ r ≡ sameLetter c d ⌝ }
+fn is_either_case(c: u8, d: u8) -> bool
+    ensures { λ r. ⌜ r ≡ eitherCase c d ⌝ }
 {
     lower(c) == lower(d)
 }
@@ -71,7 +71,7 @@ fn is_alike(x: &[u8], y: &[u8]) -> bool
     }
     let mut i = 0;
     while i < x.len() {
-        if !same_letter(x[i], y[i]) {
+        if !is_either_case(x[i], y[i]) {
             return false;
         }
         i += 1;
@@ -115,8 +115,8 @@ fn has_no_small(s: &[u8]) -> bool
 }
 
 // A character that a short form may leave out.
-fn is_optional(b: u8) -> bool
-    ensures { λ r. ⌜ r ≡ optional b ⌝ }
+fn may_leave_out(b: u8) -> bool
+    ensures { λ r. ⌜ r ≡ mayLeaveOut b ⌝ }
 {
     if kind::is_capital(b) {
         return false;
@@ -124,12 +124,12 @@ fn is_optional(b: u8) -> bool
     !kind::is_digit(b)
 }
 
-fn may_be_left_out(s: &[u8]) -> bool
-    ensures { λ r. ⌜ r ≡ every optional (now (s .entry)) ⌝ }
+fn may_leave_out_all(s: &[u8]) -> bool
+    ensures { λ r. ⌜ r ≡ every mayLeaveOut (now (s .entry)) ⌝ }
 {
     let mut i = 0;
     while i < s.len() {
-        if !is_optional(s[i]) {
+        if !may_leave_out(s[i]) {
             return false;
         }
         i += 1;
@@ -154,12 +154,12 @@ pub fn mnemonic_compare(mnemonic: &[u8], s: &[u8]) -> bool
     if !has_no_small(&mnemonic[..n]) {
         return false;
     }
-    may_be_left_out(&mnemonic[n..])
+    may_leave_out_all(&mnemonic[n..])
 }
 
 // The place where the digits that end a mnemonic begin: 3 in `ABC123`. Its length where there are none, or nothing else.
 pub fn mnemonic_split_index(mnemonic: &[u8]) -> usize
-    ensures { λ r. ⌜ r ≡ suffixStart (now (mnemonic .entry)) ⌝ }
+    ensures { λ r. ⌜ r ≡ numericSuffixStart (now (mnemonic .entry)) ⌝ }
 {
     let mut i = mnemonic.len();
     while 0 < i {
@@ -171,7 +171,7 @@ pub fn mnemonic_split_index(mnemonic: &[u8]) -> usize
     mnemonic.len()
 }
 
-// The numeric suffix that means the same as none.
+// The numeric numericSuffix that means the same as none.
 fn is_one(s: &[u8]) -> bool
     ensures { λ r. ⌜ r ≡ same (now (s .entry)) (ascii "1") ⌝ }
 {
@@ -181,7 +181,7 @@ fn is_one(s: &[u8]) -> bool
     s[0] == b'1'
 }
 
-// Whether the word spells the mnemonic, its numeric suffix with it, as `TRIG1` spells `TRIGger`.
+// Whether the word spells the mnemonic, its numeric numericSuffix with it, as `TRIG1` spells `TRIGger`.
 pub fn mnemonic_match(mnemonic: &[u8], s: &[u8]) -> bool
     ensures { λ r. ⌜ r ≡ matches (now (mnemonic .entry)) (now (s .entry)) ⌝ }
 {

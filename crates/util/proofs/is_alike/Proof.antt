@@ -18,14 +18,14 @@ returns c = search laws
 loop-holds : tie.Need-loop-holds Inv-loop μ-loop
 loop-holds c = search laws
 
-shared-slice-read-same-letter : tie.Need-shared-slice-read-same-letter Inv-loop μ-loop
-shared-slice-read-same-letter c = search laws
+shared-slice-read-is-either-case : tie.Need-shared-slice-read-is-either-case Inv-loop μ-loop
+shared-slice-read-is-either-case c = search laws
 
-shared-slice-read-same-letter-2 : tie.Need-shared-slice-read-same-letter-2 Inv-loop μ-loop
-shared-slice-read-same-letter-2 c = search laws
+shared-slice-read-is-either-case-2 : tie.Need-shared-slice-read-is-either-case-2 Inv-loop μ-loop
+shared-slice-read-is-either-case-2 c = search laws
 
-same-letter-requires : tie.Need-same-letter-requires Inv-loop μ-loop
-same-letter-requires c κs = search laws
+is-either-case-requires : tie.Need-is-either-case-requires Inv-loop μ-loop
+is-either-case-requires c κs = search laws
 
 returns-2 : tie.Need-returns-2 Inv-loop μ-loop
 returns-2 c = search laws
@@ -50,9 +50,9 @@ is-alike-spec =
     μ-loop
     returns
     loop-holds
-    shared-slice-read-same-letter
-    shared-slice-read-same-letter-2
-    same-letter-requires
+    shared-slice-read-is-either-case
+    shared-slice-read-is-either-case-2
+    is-either-case-requires
     returns-2
     add-i
     loop-less

@@ -5,7 +5,7 @@ use Rattle.util.proofs.mnemonic_compare.Reads as reads
 use Rattle.util.proofs.mnemonic_compare.Lts as lts
 use Rattle.util.proofs.has_no_small.Reads as has-no-small-reads
 use Rattle.util.proofs.is_alike.Reads as is-alike-reads
-use Rattle.util.proofs.may_be_left_out.Reads as may-be-left-out-reads
+use Rattle.util.proofs.may_leave_out_all.Reads as may-leave-out-all-reads
 
 returns : tie.Need-returns
 returns c = search laws
@@ -31,17 +31,17 @@ has-no-small-requires c κs = search laws
 returns-4 : tie.Need-returns-4
 returns-4 c = search laws
 
-sub-may-be-left-out : tie.Need-sub-may-be-left-out
-sub-may-be-left-out c = search laws
+sub-may-leave-out-all : tie.Need-sub-may-leave-out-all
+sub-may-leave-out-all c = search laws
 
-part-may-be-left-out-start : tie.Need-part-may-be-left-out-start
-part-may-be-left-out-start c = search laws
+part-may-leave-out-all-start : tie.Need-part-may-leave-out-all-start
+part-may-leave-out-all-start c = search laws
 
-part-may-be-left-out-end : tie.Need-part-may-be-left-out-end
-part-may-be-left-out-end c = search laws
+part-may-leave-out-all-end : tie.Need-part-may-leave-out-all-end
+part-may-leave-out-all-end c = search laws
 
-may-be-left-out-requires : tie.Need-may-be-left-out-requires
-may-be-left-out-requires c κs = search laws
+may-leave-out-all-requires : tie.Need-may-leave-out-all-requires
+may-leave-out-all-requires c κs = search laws
 
 returns-5 : tie.Need-returns-5
 returns-5 c = search laws
@@ -58,8 +58,8 @@ mnemonic-compare-spec =
     slice-aggregate-has-no-small
     has-no-small-requires
     returns-4
-    sub-may-be-left-out
-    part-may-be-left-out-start
-    part-may-be-left-out-end
-    may-be-left-out-requires
+    sub-may-leave-out-all
+    part-may-leave-out-all-start
+    part-may-leave-out-all-end
+    may-leave-out-all-requires
     returns-5)

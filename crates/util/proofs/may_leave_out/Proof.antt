@@ -1,6 +1,6 @@
 use Rattle.util.proofs.Bytes.{laws}
-use Rattle.util.proofs.is_optional.Statement.{statement}
-use Rattle.util.proofs.is_optional.Tie as tie
+use Rattle.util.proofs.may_leave_out.Statement.{statement}
+use Rattle.util.proofs.may_leave_out.Tie as tie
 
 is-capital-requires : tie.Need-is-capital-requires
 is-capital-requires c κs = search laws
@@ -14,5 +14,5 @@ is-digit-requires c κs = search laws
 returns-2 : tie.Need-returns-2
 returns-2 c = search laws
 
-pub is-optional-spec : {M : Type 1} → statement M
-is-optional-spec = tie.close (tie.spec is-capital-requires returns is-digit-requires returns-2)
+pub may-leave-out-spec : {M : Type 1} → statement M
+may-leave-out-spec = tie.close (tie.spec is-capital-requires returns is-digit-requires returns-2)

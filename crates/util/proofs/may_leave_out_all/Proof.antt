@@ -2,13 +2,13 @@ use Prim.Native.Nat.{_-_}
 use mathlib.Core.Path.{_≡_}
 use lib.ListN.{length, drop}
 use Rattle.util.specs.Run.{every}
-use Rattle.util.specs.Mnemonic.{optional}
+use Rattle.util.specs.Mnemonic.{mayLeaveOut}
 use Rattle.util.proofs.Every.{laws}
-use Rattle.util.proofs.may_be_left_out.Statement.{statement}
-use Rattle.util.proofs.may_be_left_out.Tie as tie
+use Rattle.util.proofs.may_leave_out_all.Statement.{statement}
+use Rattle.util.proofs.may_leave_out_all.Tie as tie
 
 abbrev Inv-loop : tie.InvT-loop
-Inv-loop s i₀ i = every optional s ≡ every optional (drop i s)
+Inv-loop s i₀ i = every mayLeaveOut s ≡ every mayLeaveOut (drop i s)
 
 abbrev μ-loop : tie.MeasureT-loop
 μ-loop s i₀ i = length s - i
@@ -16,11 +16,11 @@ abbrev μ-loop : tie.MeasureT-loop
 loop-holds : tie.Need-loop-holds Inv-loop μ-loop
 loop-holds c = search laws
 
-shared-slice-read-is-optional : tie.Need-shared-slice-read-is-optional Inv-loop μ-loop
-shared-slice-read-is-optional c = search laws
+shared-slice-read-may-leave-out : tie.Need-shared-slice-read-may-leave-out Inv-loop μ-loop
+shared-slice-read-may-leave-out c = search laws
 
-is-optional-requires : tie.Need-is-optional-requires Inv-loop μ-loop
-is-optional-requires c κs = search laws
+may-leave-out-requires : tie.Need-may-leave-out-requires Inv-loop μ-loop
+may-leave-out-requires c κs = search laws
 
 returns : tie.Need-returns Inv-loop μ-loop
 returns c = search laws
@@ -37,15 +37,15 @@ loop-again c = search laws
 returns-2 : tie.Need-returns-2 Inv-loop μ-loop
 returns-2 c = search laws
 
-pub may-be-left-out-spec : {M : Type 1} → statement M
-may-be-left-out-spec =
+pub may-leave-out-all-spec : {M : Type 1} → statement M
+may-leave-out-all-spec =
     tie.close
     (tie.spec
     Inv-loop
     μ-loop
     loop-holds
-    shared-slice-read-is-optional
-    is-optional-requires
+    shared-slice-read-may-leave-out
+    may-leave-out-requires
     returns
     add-i
     loop-less

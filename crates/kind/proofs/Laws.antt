@@ -1,48 +1,98 @@
--- Each class is a range of kinds.
-use Prim.Native.Nat.{ℕ, _<_}
-use mathlib.Core.Path.{_≡_}
-use mathlib.Core.Bool.{Bool}
+-- Laws of the classes, one for each way out of a comparison.
+use Prim.Native.Nat.{ℕ, _+_, _-_, _≤_, _<_}
+use mathlib.Core.Path.{_≡_, refl, sym, _∙_}
+use mathlib.Core.Bool.{Bool, true, false, not, _&&_, _||_}
+use native.Mathlib.Omega.{arith}
+use lib.Dec.{eqb, leb}
 use borrow.Author.Needs.{needs}
-use lib.Dec.{T, eqb, leb}
-use Rattle.kind.specs.Class.{isWhiteSpace, isCapital, isSmall, isDigit, isLetter, inMnemonic, isSign, isQuote, isAscii}
-use Rattle.kind.specs.Kind.{kindOf, blank, underscore, small, capital, digit, sign}
-use Rattle.kind.proofs.Bytes.{agree, agrees}
+use borrow.Author.Tests.{le-leb, lt-leb, ne-eqb}
+use Rattle.kind.specs.Class.{isWhiteSpace, isCapital, isSmall, isDigit, isLetter, inMnemonic, isSign}
+use Rattle.kind.proofs.Bytes.{agrees}
 
--- `unfolding computed` opens all that a test over the kinds computes with
-computed : Unit {0}
-unfolding kindOf inMnemonic isLetter isWhiteSpace isCapital isSmall isDigit isSign isQuote isAscii
-computed = tt
+-- a range of characters, from below and from within
+below : (l h b : ℕ) → b < l → false ≡ (leb l b && leb b h)
+below l h b k = rw (lt-leb l b k)
 
-module _ (b k : ℕ) (h : b < 256) (e : k ≡ kindOf b) where
-  by-kind : (p q : ℕ → Bool) → T (agree (λ x. p (kindOf x)) q 0 256) → p k ≡ q b
-  by-kind p q t = rw e (agrees (λ x. p (kindOf x)) q 256 b t h)
+inside : (l h b : ℕ) → l ≤ b → leb b h ≡ (leb l b && leb b h)
+inside l h b k = rw (le-leb l b k)
 
-  pub white-space′ : leb k blank ≡ isWhiteSpace b
-  unfolding computed
-  white-space′ = by-kind (λ x. leb x blank) isWhiteSpace tt
+module _ (b : ℕ) where
+  pub capital-below′ : b < 65 → false ≡ isCapital b
+  unfolding isCapital
+  capital-below′ = below 65 90 b
 
-  pub mnemonic′ : leb underscore k ≡ inMnemonic b
-  unfolding computed
-  mnemonic′ = by-kind (λ x. leb underscore x) inMnemonic tt
+  pub capital-inside′ : 65 ≤ b → leb b 90 ≡ isCapital b
+  unfolding isCapital
+  capital-inside′ = inside 65 90 b
 
-  pub letter′ : leb small k ≡ isLetter b
-  unfolding computed
-  letter′ = by-kind (λ x. leb small x) isLetter tt
+  pub small-below′ : b < 97 → false ≡ isSmall b
+  unfolding isSmall
+  small-below′ = below 97 122 b
 
-  pub capital′ : eqb k capital ≡ isCapital b
-  unfolding computed
-  capital′ = by-kind (λ x. eqb x capital) isCapital tt
+  pub small-inside′ : 97 ≤ b → leb b 122 ≡ isSmall b
+  unfolding isSmall
+  small-inside′ = inside 97 122 b
 
-  pub small′ : eqb k small ≡ isSmall b
-  unfolding computed
-  small′ = by-kind (λ x. eqb x small) isSmall tt
+  pub digit-below′ : b < 48 → false ≡ isDigit b
+  unfolding isDigit
+  digit-below′ = below 48 57 b
 
-  pub digit′ : eqb k digit ≡ isDigit b
-  unfolding computed
-  digit′ = by-kind (λ x. eqb x digit) isDigit tt
+  pub digit-inside′ : 48 ≤ b → leb b 57 ≡ isDigit b
+  unfolding isDigit
+  digit-inside′ = inside 48 57 b
 
-  pub sign′ : eqb k sign ≡ isSign b
-  unfolding computed
-  sign′ = by-kind (λ x. eqb x sign) isSign tt
+  module _ (r : Bool) where
+    module _ (e : r ≡ isCapital b) where
+      pub letter-capital′ : r ≡ true → true ≡ isLetter b
+      unfolding isLetter
+      letter-capital′ q = rw (← e, q)
 
-pub ruleset laws = (needs, white-space′, mnemonic′, letter′, capital′, small′, digit′, sign′)
+      pub letter-other′ : r ≡ false → (t : Bool) → t ≡ isSmall b → t ≡ isLetter b
+      unfolding isLetter
+      letter-other′ q t f = rw (← e, q, f)
+
+    module _ (e : r ≡ isLetter b) where
+      pub mnemonic-letter′ : r ≡ true → true ≡ inMnemonic b
+      unfolding inMnemonic
+      mnemonic-letter′ q = rw (← e, q)
+
+      module _ (q : r ≡ false) (t : Bool) (f : t ≡ isDigit b) where
+        pub mnemonic-digit′ : t ≡ true → true ≡ inMnemonic b
+        unfolding inMnemonic
+        mnemonic-digit′ k = rw (← e, q, ← f, k)
+
+        pub mnemonic-other′ : t ≡ false → eqb b 95 ≡ inMnemonic b
+        unfolding inMnemonic
+        mnemonic-other′ k = rw (← e, q, ← f, k)
+
+  pub plus′ : b ≡ 43 → true ≡ isSign b
+  unfolding isSign
+  plus′ e = rw e
+
+  pub no-plus′ : (b ≡ 43 → ⊥) → eqb b 45 ≡ isSign b
+  unfolding isSign
+  no-plus′ h = rw (ne-eqb b 43 h)
+
+  pub space′ : b ≡ 32 → true ≡ isWhiteSpace b
+  unfolding isWhiteSpace
+  space′ e = rw e
+
+  module _ (h : b ≡ 32 → ⊥) where
+    outside : (b ≡ 9 → ⊥) → (b ≡ 10 → ⊥) → (b ≡ 12 → ⊥) → (b ≡ 13 → ⊥) → false ≡ isWhiteSpace b
+    unfolding isWhiteSpace
+    outside t n f r = rw (ne-eqb b 9 t, ne-eqb b 10 n, ne-eqb b 12 f, ne-eqb b 13 r, ne-eqb b 32 h)
+
+    pub white-below′ : b < 9 → false ≡ isWhiteSpace b
+    white-below′ k = outside (λ e. omega arith) (λ e. omega arith) (λ e. omega arith) (λ e. omega arith)
+
+    pub white-above′ : 13 < b → false ≡ isWhiteSpace b
+    white-above′ k = outside (λ e. omega arith) (λ e. omega arith) (λ e. omega arith) (λ e. omega arith)
+
+    -- the five bytes from tab to carriage return, computed
+    pub white-inside′ : 9 ≤ b → b ≤ 13 → not (eqb b 11) ≡ isWhiteSpace b
+    unfolding isWhiteSpace
+    white-inside′ l k =
+        let e : 9 + (b - 9) ≡ b = omega arith in
+        rw e at (agrees (λ x. not (eqb (9 + x) 11)) (λ x. isWhiteSpace (9 + x)) 5 (b - 9) tt (omega arith))
+
+pub ruleset laws = (needs, white-below′, white-above′, white-inside′, capital-below′, capital-inside′, small-below′, small-inside′, digit-below′, digit-inside′, letter-capital′, letter-other′, mnemonic-letter′, mnemonic-digit′, mnemonic-other′, plus′, no-plus′, space′)

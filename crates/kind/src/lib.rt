@@ -50,44 +50,77 @@ pub fn kind(b: u8) -> u8
     KINDS[b as usize]
 }
 
+// The classes are comparisons: a constant table is copied to the stack wherever it is read.
+
 pub fn is_white_space(b: u8) -> bool
     ensures { λ r. ⌜ r ≡ isWhiteSpace b ⌝ }
 {
-    kind(b) <= BLANK
-}
-
-pub fn in_mnemonic(b: u8) -> bool
-    ensures { λ r. ⌜ r ≡ inMnemonic b ⌝ }
-{
-    UNDERSCORE <= kind(b)
-}
-
-pub fn is_letter(b: u8) -> bool
-    ensures { λ r. ⌜ r ≡ isLetter b ⌝ }
-{
-    SMALL <= kind(b)
+    if b == b' ' {
+        return true;
+    }
+    if b < b'\t' {
+        return false;
+    }
+    if b'\r' < b {
+        return false;
+    }
+    b != 11
 }
 
 pub fn is_capital(b: u8) -> bool
     ensures { λ r. ⌜ r ≡ isCapital b ⌝ }
 {
-    kind(b) == CAPITAL
+    if b < b'A' {
+        return false;
+    }
+    b <= b'Z'
 }
 
 pub fn is_small(b: u8) -> bool
     ensures { λ r. ⌜ r ≡ isSmall b ⌝ }
 {
-    kind(b) == SMALL
+    if b < b'a' {
+        return false;
+    }
+    b <= b'z'
 }
 
 pub fn is_digit(b: u8) -> bool
     ensures { λ r. ⌜ r ≡ isDigit b ⌝ }
 {
-    kind(b) == DIGIT
+    if b < b'0' {
+        return false;
+    }
+    b <= b'9'
+}
+
+pub fn is_letter(b: u8) -> bool
+    ensures { λ r. ⌜ r ≡ isLetter b ⌝ }
+{
+    if is_capital(b) {
+        return true;
+    }
+    is_small(b)
+}
+
+// What may stand in a mnemonic behind its first letter.
+pub fn in_mnemonic(b: u8) -> bool
+    ensures { λ r. ⌜ r ≡ inMnemonic b ⌝ }
+{
+    if is_letter(b) {
+        return true;
+    }
+    if is_digit(b) {
+        return true;
+    }
+    b == b'_'
 }
 
 pub fn is_sign(b: u8) -> bool
     ensures { λ r. ⌜ r ≡ isSign b ⌝ }
 {
-    kind(b) == SIGN
+    if b == b'+' {
+        return true;
+    }
+    b == b'-'
 }

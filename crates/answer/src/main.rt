@@ -1,0 +1,284 @@
+// Answers requests: a line of standard input each, and for each a line of standard output.
+ghost use Prim.Native.Nat.{_+_, _≤_};
+ghost use lib.ListN.{length};
+ghost use Rattle.io.specs.Counts.{Counts};
+use libc::STDIN_FILENO;
+use libc::STDOUT_FILENO;
+use request::Text;
+
+// The answers that wait in the output buffer: how many bytes they are, and whether every write so far went well.
+struct Sink {
+    used: usize,
+    ok: bool,
+}
+
+// Between two reads: how many bytes of the next line are there, more than the line buffer has where the line
+// is too long; and the answers that wait.
+struct State {
+    held: usize,
+    sink: Sink,
+}
+
+fn main() {
+    let mut input = [0u8; 65536];
+    let mut line = [0u8; 600000];
+    let mut text = [0u8; 300000];
+    let mut out = [0u8; 65536];
+    answer_all(&mut input, &mut line, &mut text, &mut out);
+}
+
+// Nothing says that the input ends, so the turns are counted down, from a number that no run uses up.
+fn answer_all(input: &mut [u8], line: &mut [u8], text: &mut [u8], out: &mut [u8]) {
+    let mut turns = u64::MAX;
+    let mut state = State {
+        held: 0,
+        sink: Sink { used: 0, ok: true },
+    };
+    while turns > 0 {
+        let n = fill(input);
+        if n == 0 {
+            finish(state, line, text, out);
+            return;
+        }
+        state = take_lines(&input[..n], state, line, text, out);
+        if !state.sink.ok {
+            return;
+        }
+        turns -= 1;
+    }
+}
+
+// Reads once, and answers how many bytes came: none at the end of the input, and where the read fails.
+fn fill(input: &mut [u8]) -> usize
+    ensures { λ r. ⌜ Counts r (now (input .exit)) ⌝ }
+{
+    let got = libc::read(STDIN_FILENO, input);
+    io::count(got, input)
+}
+
+// Answers each line that ends in what was read. What stands behind the last newline is kept for the next time.
+fn take_lines(input: &[u8], state: State, line: &mut [u8], text: &mut [u8], out: &mut [u8]) -> State
+    requires { ⌜ state .sink .used ≤ length (now out) ⌝ }
+    ensures { λ r. ⌜ r .sink .used ≤ length (now (out .exit)) ⌝ }
+{
+    let mut held = state.held;
+    let mut sink = state.sink;
+    let mut at = 0;
+    while at < input.len() {
+        let end = line_end(input, at);
+        held = keep(&input[at..end], line, held);
+        if end == input.len() {
+            return State { held, sink };
+        }
+        sink = answer_line(line, held, text, out, sink);
+        if !sink.ok {
+            return State { held: 0, sink };
+        }
+        held = 0;
+        at = end + 1;
+    }
+    State { held, sink }
+}
+
+// The place of the next newline, or the end of what was read.
+fn line_end(input: &[u8], at: usize) -> usize
+    requires { ⌜ at ≤ length (now input) ⌝ }
+    ensures { λ r. ⌜ (at ≤ r) × (r ≤ length (now (input .entry))) ⌝ }
+{
+    let mut i = at;
+    while i < input.len() {
+        if input[i] == b'\n' {
+            return i;
+        }
+        i += 1;
+    }
+    i
+}
+
+// Adds a part to the line as far as it is there, and answers how many bytes are there then.
+fn keep(part: &[u8], line: &mut [u8], held: usize) -> usize {
+    if line.len() < held {
+        return held;
+    }
+    if line.len() - held < part.len() {
+        return line.len() + 1;
+    }
+    copy(part, line, held);
+    held + part.len()
+}
+
+fn copy(from: &[u8], to: &mut [u8], at: usize)
+    requires { ⌜ at + length (now from) ≤ length (now to) ⌝ }
+{
+    let mut i = 0;
+    while i < from.len() {
+        to[at + i] = from[i];
+        i += 1;
+    }
+}
+
+// Answers the last line, where it lacks its newline, and writes out what waits.
+fn finish(state: State, line: &[u8], text: &mut [u8], out: &mut [u8])
+    requires { ⌜ state .sink .used ≤ length (now out) ⌝ }
+{
+    let sink = state.sink;
+    if state.held == 0 {
+        flush(out, sink);
+        return;
+    }
+    let last = answer_line(line, state.held, text, out, sink);
+    flush(out, last);
+}
+
+fn flush(out: &[u8], sink: Sink)
+    requires { ⌜ sink .used ≤ length (now out) ⌝ }
+{
+    let used = sink.used;
+    if sink.ok {
+        io::write_all(STDOUT_FILENO, &out[..used]);
+    }
+}
+
+// A line that is too long is no request.
+fn answer_line(line: &[u8], held: usize, text: &mut [u8], out: &mut [u8], sink: Sink) -> Sink
+    requires { ⌜ sink .used ≤ length (now out) ⌝ }
+    ensures { λ r. ⌜ r .used ≤ length (now (out .exit)) ⌝ }
+{
+    if line.len() < held {
+        return refuse(out, sink);
+    }
+    respond(&line[..held], text, out, sink)
+}
+
+// Answers a request line by its letter.
+fn respond(line: &[u8], text: &mut [u8], out: &mut [u8], sink: Sink) -> Sink
+    requires { ⌜ sink .used ≤ length (now out) ⌝ }
+    ensures { λ r. ⌜ r .used ≤ length (now (out .exit)) ⌝ }
+{
+    let letter = request::field(line, 0);
+    let at = letter.start;
+    if line.len() <= at {
+        return refuse(out, sink);
+    }
+    if letter.end != at + 1 {
+        return refuse(out, sink);
+    }
+    match line[at] {
+        b'M' => names(line, at + 1, text, out, sink),
+        _ => refuse(out, sink),
+    }
+}
+
+// M, a name and a word: what mnemonic_match and mnemonic_compare say of them.
+fn names(line: &[u8], at: usize, text: &mut [u8], out: &mut [u8], sink: Sink) -> Sink
+    requires { ⌜ sink .used ≤ length (now out) ⌝ }
+    ensures { λ r. ⌜ r .used ≤ length (now (out .exit)) ⌝ }
+{
+    let name = take_text(line, at, text, 0);
+    if !name.ok {
+        return refuse(out, sink);
+    }
+    let word = take_text(line, name.next, text, name.end);
+    if !word.ok {
+        return refuse(out, sink);
+    }
+    if !is_last(line, word.next) {
+        return refuse(out, sink);
+    }
+    put(out, sink, &name_answer(text, name.end, word.end))
+}
+
+// The name is the text up to n, and the word the text from there up to m.
+fn name_answer(text: &[u8], n: usize, m: usize) -> [u8; 18]
+    requires { ⌜ (n ≤ m) × (m ≤ length (now text)) ⌝ }
+{
+    let name = &text[..n];
+    let word = &text[n..m];
+    report::names(
+        util::mnemonic_match(name, word),
+        util::mnemonic_compare(name, word),
+    )
+}
+
+// Whether a text was taken from a line; the place behind its field in the line, and the place behind its bytes
+// in the text buffer.
+struct Taken {
+    ok: bool,
+    next: usize,
+    end: usize,
+}
+
+// Takes the next field of a line as a text in hex, which is written into the text buffer from a place on.
+fn take_text(line: &[u8], at: usize, text: &mut [u8], from: usize) -> Taken
+    requires { ⌜ from ≤ length (now text) ⌝ }
+    ensures { λ r. ⌜ (from ≤ r .end) × (r .end ≤ length (now (text .exit))) ⌝ }
+{
+    let part = request::field(line, at);
+    let next = part.end;
+    if part.start == next {
+        return Taken {
+            ok: false,
+            next,
+            end: from,
+        };
+    }
+    let Text::Until(end) = request::unhex(line, part.start, next, text, from) else {
+        return Taken {
+            ok: false,
+            next,
+            end: from,
+        };
+    };
+    Taken {
+        ok: true,
+        next,
+        end,
+    }
+}
+
+// Whether no field follows.
+fn is_last(line: &[u8], at: usize) -> bool {
+    let rest = request::field(line, at);
+    rest.start == rest.end
+}
+
+// The answer to a line that is no request.
+fn refuse(out: &mut [u8], sink: Sink) -> Sink
+    requires { ⌜ sink .used ≤ length (now out) ⌝ }
+    ensures { λ r. ⌜ r .used ≤ length (now (out .exit)) ⌝ }
+{
+    put(out, sink, b"request?\n")
+}
+
+// Adds an answer to those that wait, which are written out first where it has no room. Once a write has
+// failed nothing more is written.
+fn put(out: &mut [u8], sink: Sink, answer: &[u8]) -> Sink
+    requires { ⌜ sink .used ≤ length (now out) ⌝ }
+    ensures { λ r. ⌜ r .used ≤ length (now (out .exit)) ⌝ }
+{
+    let used = sink.used;
+    if !sink.ok {
+        return sink;
+    }
+    if answer.len() <= out.len() - used {
+        copy(answer, out, used);
+        return Sink {
+            used: used + answer.len(),
+            ok: true,
+        };
+    }
+    if !io::write_all(STDOUT_FILENO, &out[..used]) {
+        return Sink { used: 0, ok: false };
+    }
+    if out.len() < answer.len() {
+        return Sink {
+            used: 0,
+            ok: io::write_all(STDOUT_FILENO, answer),
+        };
+    }
+    copy(answer, out, 0);
+    Sink {
+        used: answer.len(),
+        ok: true,
+    }
+}

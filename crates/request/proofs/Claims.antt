@@ -1,0 +1,26 @@
+-- The claims.
+use mathlib.Core.Path.{refl}
+use Rattle.kind.specs.Class.{isWhiteSpace, isDigit}
+use Rattle.util.specs.Run.{run, runEnd}
+use Rattle.request.specs.Claims.{Rows, Claims}
+use Rattle.request.specs.Field.{fieldAt}
+use Rattle.request.specs.Hex.{digitOf, isHex, arePairs, bytesOf, isDash, textOf}
+use Rattle.request.proofs.Texts.{until}
+
+rows : Rows
+unfolding fieldAt runEnd run isWhiteSpace textOf isDash arePairs bytesOf isHex digitOf isDigit
+rows =
+    record {
+      first = refl;
+      second = refl;
+      third = refl;
+      no-fourth = refl;
+      bytes = refl;
+      dash = refl;
+      odd = refl;
+      no-digit = refl;
+      two-dashes = refl;
+    }
+
+pub claims : Claims
+claims = record { ends = λ line from to out at n slots. until out at n slots line from to; rows = rows }

@@ -1,0 +1,6 @@
+-- Laws that belong to no one function.
+pub mod Digits
+pub mod Fields
+pub mod Pairs
+pub mod Texts
+pub mod Claims

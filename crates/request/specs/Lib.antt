@@ -1,0 +1,4 @@
+pub mod Claims
+pub mod Field
+pub mod Hex
+pub mod Unhex

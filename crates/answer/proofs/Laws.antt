@@ -1,22 +1,19 @@
 -- What `search` is handed at the needs of this crate.
 use Prim.Native.Nat.{ℕ, _≤_}
-use mathlib.Core.Path.{_≡_, sym, subst}
+use mathlib.Core.Path.{_≡_, subst}
 use mathlib.Core.List.{List}
 use native.Mathlib.Nat.{le-trans}
 use lib.ListN.{length, take}
-use lib.Seq.{length-take-le}
 use borrow.Author.Needs.{needs}
-use Rattle.request.specs.Unhex.{Outcome, unhexed}
+use Rattle.util.proofs.Compare.{part-long′}
+use Rattle.request.specs.Unhex.{unhexed}
 use Rattle.request.specs.declared.Text.{Text}
 use Rattle.request.specs.declared.Text.the-variants.{Until}
 use Rattle.request.proofs.Claims.{claims}
 
--- the length of a front, by itself and before a part that follows it
-pub front′ : (n : ℕ) (l : List ℕ) → n ≤ length l → n ≡ length (take n l)
-front′ n l h = sym (length-take-le n l h)
-
+-- the length of a front before a part that follows it
 pub front-of-part′ : (n m : ℕ) (l : List ℕ) → n ≤ m → m ≤ length l → n ≡ length (take n l)
-front-of-part′ n m l h k = sym (length-take-le n l (le-trans h k))
+front-of-part′ n m l h k = part-long′ n l (le-trans h k)
 
 -- where a text that was written ends
 module _ (s o o′ : List ℕ) (from to at n : ℕ) (r : Text) (e : record { says = r; slots = o′ } ≡ unhexed s from to o at) (q : r ≡ Until n) where
@@ -29,4 +26,4 @@ module _ (s o o′ : List ℕ) (from to at n : ℕ) (r : Text) (e : record { say
   pub in-room′ : n ≤ length o′
   in-room′ = ends .1
 
-pub ruleset laws = (needs, front′, front-of-part′, after′, in-room′)
+pub ruleset laws = (needs, part-long′, front-of-part′, after′, in-room′)

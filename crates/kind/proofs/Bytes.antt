@@ -8,7 +8,7 @@ use lib.Dec.{T}
 use lib.ListN.{getD}
 
 -- the list f i, f (i + 1), .., of n entries
-abbrev pub table {ℓ} : {A : Type ℓ} → (ℕ → A) → ℕ → ℕ → List A
+abbrev pub table : (ℕ → ℕ) → ℕ → ℕ → List ℕ
 table f i zero = []
 table f i (suc n) = f i ∷ table f (suc i) n
 

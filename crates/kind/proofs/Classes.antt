@@ -1,18 +1,26 @@
--- Classes that have no character in common.
-use Prim.Native.Nat.{ℕ, _<_}
+-- Ranges of characters, and classes that have no character in common.
+use Prim.Native.Nat.{ℕ, _≤_, _<_}
 use mathlib.Core.Path.{_≡_}
-use mathlib.Core.Bool.{Bool, true, false, _&&_, and-false}
+use mathlib.Core.Bool.{true, false, _&&_, and-false}
 use native.Mathlib.Omega.{arith}
 use lib.Dec.{leb}
-use borrow.Author.Tests.{leb-true, lt-leb}
+use borrow.Author.Tests.{leb-true, le-leb, lt-leb}
 use Rattle.kind.specs.Class.{isCapital, isSmall, isDigit}
 use Rattle.kind.proofs.Tests.{and-left, and-right}
 
+-- a range tested from below its first character, and from there on
+pub under : (l h b : ℕ) → b < l → (leb l b && leb b h) ≡ false
+under l h b k = rw (lt-leb l b k)
+
+pub onward : (l h b : ℕ) → l ≤ b → (leb l b && leb b h) ≡ leb b h
+onward l h b k = rw (le-leb l b k)
+
+-- a character of one range is in no range that lies below it, and in none above
 pub above : (l h l′ h′ b : ℕ) → h′ < l → (leb l b && leb b h) ≡ true → (leb l′ b && leb b h′) ≡ false
 above l h l′ h′ b k e = rw (lt-leb b h′ (omega (arith, leb-true l b (and-left (leb l b) (leb b h) e)))) (and-false (leb l′ b))
 
 pub below : (l h l′ h′ b : ℕ) → h < l′ → (leb l b && leb b h) ≡ true → (leb l′ b && leb b h′) ≡ false
-below l h l′ h′ b k e = rw (lt-leb l′ b (omega (arith, leb-true b h (and-right (leb l b) (leb b h) e))))
+below l h l′ h′ b k e = under l′ h′ b (omega (arith, leb-true b h (and-right (leb l b) (leb b h) e)))
 
 module _ (b : ℕ) where
   pub small-no-capital : isSmall b ≡ true → isCapital b ≡ false

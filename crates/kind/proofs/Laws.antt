@@ -1,45 +1,39 @@
 -- Laws of the classes, one for each way out of a comparison.
 use Prim.Native.Nat.{ℕ, _+_, _-_, _≤_, _<_}
-use mathlib.Core.Path.{_≡_, refl, sym, _∙_}
-use mathlib.Core.Bool.{Bool, true, false, not, _&&_, _||_}
+use mathlib.Core.Path.{_≡_, sym}
+use mathlib.Core.Bool.{Bool, true, false, not}
 use native.Mathlib.Omega.{arith}
 use lib.Dec.{eqb, leb}
 use borrow.Author.Needs.{needs}
-use borrow.Author.Tests.{le-leb, lt-leb, ne-eqb}
+use borrow.Author.Tests.{ne-eqb}
 use Rattle.kind.specs.Class.{isWhiteSpace, isCapital, isSmall, isDigit, isLetter, inMnemonic, isSign}
 use Rattle.kind.proofs.Bytes.{agrees}
-
--- a range of characters, from below and from within
-below : (l h b : ℕ) → b < l → false ≡ (leb l b && leb b h)
-below l h b k = rw (lt-leb l b k)
-
-inside : (l h b : ℕ) → l ≤ b → leb b h ≡ (leb l b && leb b h)
-inside l h b k = rw (le-leb l b k)
+use Rattle.kind.proofs.Classes.{under, onward}
 
 module _ (b : ℕ) where
   pub capital-below′ : b < 65 → false ≡ isCapital b
   unfolding isCapital
-  capital-below′ = below 65 90 b
+  capital-below′ k = sym (under 65 90 b k)
 
   pub capital-inside′ : 65 ≤ b → leb b 90 ≡ isCapital b
   unfolding isCapital
-  capital-inside′ = inside 65 90 b
+  capital-inside′ k = sym (onward 65 90 b k)
 
   pub small-below′ : b < 97 → false ≡ isSmall b
   unfolding isSmall
-  small-below′ = below 97 122 b
+  small-below′ k = sym (under 97 122 b k)
 
   pub small-inside′ : 97 ≤ b → leb b 122 ≡ isSmall b
   unfolding isSmall
-  small-inside′ = inside 97 122 b
+  small-inside′ k = sym (onward 97 122 b k)
 
   pub digit-below′ : b < 48 → false ≡ isDigit b
   unfolding isDigit
-  digit-below′ = below 48 57 b
+  digit-below′ k = sym (under 48 57 b k)
 
   pub digit-inside′ : 48 ≤ b → leb b 57 ≡ isDigit b
   unfolding isDigit
-  digit-inside′ = inside 48 57 b
+  digit-inside′ k = sym (onward 48 57 b k)
 
   module _ (r : Bool) where
     module _ (e : r ≡ isCapital b) where

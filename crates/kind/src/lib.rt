@@ -6,7 +6,8 @@ ghost use Rattle.kind.specs.Class.{isWhiteSpace, isCapital, isSmall, isD
 ghost use Rattle.kind.specs.Kind.{kindOf};
 use table::KINDS;
 
-// The kinds. White space is the first two, letters the last two, and what may stand in a mnemonic the last four.
+// The kinds by name; the table is written in these.
+// White space is the first two, letters the last two, and what may stand in a mnemonic the last four.
 pub const NEWLINE: u8 = 0;
 
 pub const BLANK: u8 = 1;

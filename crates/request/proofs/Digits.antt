@@ -1,28 +1,26 @@
 -- The value of a hex digit, by the ranges of its byte.
 use Prim.Native.Nat.{ℕ, _+_, _-_, _≤_, _<_}
-use mathlib.Core.Path.{_≡_}
+use mathlib.Core.Path.{_≡_, _∙_}
 use mathlib.Core.Bool.{true, false, _&&_}
 use native.Mathlib.Omega.{arith}
 use lib.Dec.{leb}
 use borrow.Author.Needs.{needs}
 use borrow.Author.Tests.{le-leb, lt-leb, lt-ltb, le-ltb, ltb-true}
 use Rattle.kind.specs.Class.{isDigit}
+use Rattle.kind.proofs.Classes.{under, onward}
 use Rattle.request.specs.Hex.{digitOf, isHex}
 
-module _ (b low high : ℕ) where
-  inside : low ≤ b → b ≤ high → (leb low b && leb b high) ≡ true
-  inside h k = rw (le-leb low b h, le-leb b high k)
+module _ (b low high : ℕ) (h : low ≤ b) where
+  inside : b ≤ high → (leb low b && leb b high) ≡ true
+  inside k = onward low high b h ∙ le-leb b high k
 
-  under : b < low → (leb low b && leb b high) ≡ false
-  under h = rw (lt-leb low b h)
-
-  over : low ≤ b → high < b → (leb low b && leb b high) ≡ false
-  over h k = rw (le-leb low b h, lt-leb b high k)
+  over : high < b → (leb low b && leb b high) ≡ false
+  over k = onward low high b h ∙ lt-leb b high k
 
 module _ (b : ℕ) where
   pub low′ : b < 48 → 16 ≡ digitOf b
   unfolding digitOf isDigit
-  low′ h = rw (under b 48 57 h, under b 65 70 (omega arith), under b 97 102 (omega arith))
+  low′ h = rw (under 48 57 b h, under 65 70 b (omega arith), under 97 102 b (omega arith))
 
   module _ (h₁ : 48 ≤ b) where
     pub digit′ : b ≤ 57 → b - 48 ≡ digitOf b
@@ -32,7 +30,7 @@ module _ (b : ℕ) where
     module _ (h₂ : 57 < b) where
       pub between′ : b < 65 → 16 ≡ digitOf b
       unfolding digitOf isDigit
-      between′ k = rw (over b 48 57 h₁ h₂, under b 65 70 k, under b 97 102 (omega arith))
+      between′ k = rw (over b 48 57 h₁ h₂, under 65 70 b k, under 97 102 b (omega arith))
 
       module _ (h₃ : 65 ≤ b) where
         pub capital′ : b ≤ 70 → b - 65 + 10 ≡ digitOf b
@@ -42,7 +40,7 @@ module _ (b : ℕ) where
         module _ (h₄ : 70 < b) where
           pub middle′ : b < 97 → 16 ≡ digitOf b
           unfolding digitOf isDigit
-          middle′ k = rw (over b 48 57 h₁ h₂, over b 65 70 h₃ h₄, under b 97 102 k)
+          middle′ k = rw (over b 48 57 h₁ h₂, over b 65 70 h₃ h₄, under 97 102 b k)
 
           module _ (h₅ : 97 ≤ b) where
             pub small′ : b ≤ 102 → b - 97 + 10 ≡ digitOf b

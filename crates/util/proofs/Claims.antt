@@ -1,9 +1,7 @@
 -- The claims.
-use Prim.Native.Nat.{ℕ, _-_, _≤_, _<_}
-use mathlib.Core.Path.{_≡_, refl, sym, _∙_}
-use mathlib.Core.Logic.{_⊎_, inl, inr}
+use Prim.Native.Nat.{ℕ}
+use mathlib.Core.Path.{refl}
 use mathlib.Core.List.{List}
-use mathlib.Core.Bool.{Bool, true, false}
 use lib.ListN.{take-append-drop}
 use Rattle.kind.specs.Class.{isCapital, isSmall, isDigit}
 use Rattle.util.specs.Run.{every}

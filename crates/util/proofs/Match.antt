@@ -1,8 +1,8 @@
 -- Laws of `matches`, one for each way out of the match.
-use Prim.Native.Nat.{ℕ, _-_, _≤_, _<_}
-use mathlib.Core.Path.{_≡_, refl, sym, ap, _∙_}
+use Prim.Native.Nat.{ℕ, _-_, _≤_}
+use mathlib.Core.Path.{_≡_, sym, _∙_}
 use mathlib.Core.List.{List, [], _∷_}
-use mathlib.Core.Bool.{Bool, true, false, not, _&&_, _||_, and-true, and-false, or-false}
+use mathlib.Core.Bool.{Bool, true, false, not, _&&_, and-true, and-false, or-false}
 use native.Mathlib.Omega.{arith}
 use lib.ListN.{length, take, drop, length-drop}
 use lib.Seq.{take-length, drop-length}
@@ -11,7 +11,7 @@ use borrow.Author.Needs.{needs}
 use borrow.Author.Tests.{not-true, not-false}
 use Rattle.util.specs.Mnemonic.{pairs, compares, numericSuffixStart, sameNumericSuffix, matches}
 use Rattle.util.proofs.Pairs.{differ}
-use Rattle.util.proofs.Split.{starts-within, starts-within′}
+use Rattle.util.proofs.Split.{starts-within′}
 use Rattle.util.proofs.Compare.{part-long′, to-end}
 
 -- a suffix beside none, and beside another

@@ -34,7 +34,7 @@ pub record Rows : Type 0 where
   pub one : matches (ascii "TRIGger") (ascii "TRIG1") ≡ true
   pub one-with-zero : matches (ascii "TRIGger") (ascii "TRIG01") ≡ false
 
-pub record Claims : Type 1 where
+pub record Claims : Type 0 where
   -- every text is split so
   pub splits : (s : List ℕ) → Split s
   -- every table name has these forms

@@ -56,6 +56,7 @@ fn lower(b: u8) -> u8
     b
 }
 
+// The same character, whichever case a letter is in.
 fn is_either_case(c: u8, d: u8) -> bool
     ensures { λ r. ⌜ r ≡ eitherCase c d ⌝ }
 {
@@ -79,6 +80,7 @@ fn is_alike(x: &[u8], y: &[u8]) -> bool
     true
 }
 
+// Equal byte for byte.
 fn is_equal(x: &[u8], y: &[u8]) -> bool
     ensures { λ r. ⌜ r ≡ same (now (x .entry)) (now (y .entry)) ⌝ }
 {
@@ -95,12 +97,14 @@ fn is_equal(x: &[u8], y: &[u8]) -> bool
     true
 }
 
+// A character that may stand in a short form.
 fn is_not_small(b: u8) -> bool
     ensures { λ r. ⌜ r ≡ notSmall b ⌝ }
 {
     !kind::is_small(b)
 }
 
+// Whether a text may be a short form.
 fn has_no_small(s: &[u8]) -> bool
     ensures { λ r. ⌜ r ≡ every notSmall (now (s .entry)) ⌝ }
 {
@@ -124,6 +128,7 @@ fn may_leave_out(b: u8) -> bool
     !kind::is_digit(b)
 }
 
+// Whether a short form may leave all of a text out.
 fn may_leave_out_all(s: &[u8]) -> bool
     ensures { λ r. ⌜ r ≡ every mayLeaveOut (now (s .entry)) ⌝ }
 {

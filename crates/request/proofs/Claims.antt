@@ -4,11 +4,12 @@ use Rattle.kind.specs.Class.{isWhiteSpace, isDigit}
 use Rattle.util.specs.Run.{run, runEnd}
 use Rattle.request.specs.Claims.{Rows, Claims}
 use Rattle.request.specs.Field.{fieldAt}
-use Rattle.request.specs.Hex.{digitOf, isHex, arePairs, bytesOf, isDash, textOf}
+use Rattle.number.specs.Digit.{digitOf, isDigitOf}
+use Rattle.request.specs.Hex.{arePairs, bytesOf, isDash, textOf}
 use Rattle.request.proofs.Texts.{until}
 
 rows : Rows
-unfolding fieldAt runEnd run isWhiteSpace textOf isDash arePairs bytesOf isHex digitOf isDigit
+unfolding fieldAt runEnd run isWhiteSpace textOf isDash arePairs bytesOf isDigitOf digitOf isDigit
 rows =
     record {
       first = refl;

@@ -15,7 +15,8 @@ use borrow.Author.Tests.{eq-eqb, ne-eqb}
 use mir.Syntax.{w8}
 use mir.Val.{Fits}
 use Rattle.kind.proofs.Tests.{and-left, and-right}
-use Rattle.request.specs.Hex.{digitOf, isHex, arePairs, bytesOf, isDash}
+use Rattle.number.specs.Digit.{digitOf}
+use Rattle.request.specs.Hex.{isHex, arePairs, bytesOf, isDash}
 use Rattle.request.specs.Unhex.{Outcome, written}
 use Rattle.request.specs.declared.Text.the-variants.{Until}
 use Rattle.request.proofs.Digits.{hex, no-hex, value}

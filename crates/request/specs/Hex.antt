@@ -1,22 +1,14 @@
 -- A text in hex: two digits a byte.
-use Prim.Native.Nat.{ℕ, _+_, _-_, _*_}
-use Prim.Native.Char.{code}
+use Prim.Native.Nat.{ℕ, _+_, _*_}
 use mathlib.Core.List.{List, [], _∷_}
 use mathlib.Core.Bool.{Bool, false, true, cond, _&&_}
 use mathlib.Core.Option.{Option, none, some}
-use lib.Dec.{ltb}
-use Rattle.kind.specs.Class.{is, within, isDigit}
-
--- the value of a digit of either case, and 16 for any other byte
-unfoldable pub digitOf : ℕ → ℕ
-digitOf b =
-    cond (isDigit b) (b - code "0")
-    (cond (within "A" "F" b) (b - code "A" + 10)
-    (cond (within "a" "f" b) (b - code "a" + 10) 16))
+use Rattle.kind.specs.Class.{is}
+use Rattle.number.specs.Digit.{digitOf, isDigitOf}
 
 -- a hex digit
-unfoldable pub isHex : ℕ → Bool
-isHex b = ltb (digitOf b) 16
+abbrev pub isHex : ℕ → Bool
+isHex = isDigitOf 16
 
 -- pairs of hex digits, and nothing else
 unfoldable pub arePairs : List ℕ → Bool

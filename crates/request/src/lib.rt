@@ -6,9 +6,10 @@ ghost use lib.ListN.{length};
 ghost use lib.Seq.{slice};
 ghost use Rattle.util.specs.Run.{runEnd};
 ghost use Rattle.request.specs.Field.{isInk, fieldAt};
-ghost use Rattle.request.specs.Hex.{digitOf, arePairs, bytesOf, isDash};
+ghost use Rattle.request.specs.Hex.{arePairs, bytesOf, isDash};
 ghost use Rattle.request.specs.Unhex.{Outcome, unhexed, written};
 use kind::is_white_space;
+use number::digit_value;
 use util::skip_ws;
 
 // A part of a line, from its start up to its end.
@@ -91,10 +92,10 @@ fn are_pairs(line: &[u8], from: usize, to: usize) -> bool
 {
     let mut i = from;
     while 2 <= to - i {
-        if 16 <= hex_digit(line[i]) {
+        if 16 <= digit_value(line[i]) {
             return false;
         }
-        if 16 <= hex_digit(line[i + 1]) {
+        if 16 <= digit_value(line[i + 1]) {
             return false;
         }
         i += 2;
@@ -110,30 +111,9 @@ fn write_bytes(line: &[u8], from: usize, to: usize, out: &mut [u8], at: usize) -
     let mut i = from;
     let mut k = at;
     while i < to {
-        out[k] = hex_digit(line[i]) * 16 + hex_digit(line[i + 1]);
+        out[k] = digit_value(line[i]) * 16 + digit_value(line[i + 1]);
         i += 2;
         k += 1;
     }
     k
-}
-
-// The value of a hex digit, and 16 for a byte that is none.
-fn hex_digit(b: u8) -> u8
-    ensures { λ r. ⌜ r ≡ digitOf b ⌝ }
-{
-    if b < b'0' {
-        16
-    } else if b <= b'9' {
-        b - b'0'
-    } else if b < b'A' {
-        16
-    } else if b <= b'F' {
-        b - b'A' + 10
-    } else if b < b'a' {
-        16
-    } else if b <= b'f' {
-        b - b'a' + 10
-    } else {
-        16
-    }
 }

@@ -8,9 +8,10 @@ use native.Mathlib.Numerals.{add-one}
 use lib.ListN.{length, getD, drop-of-length-le, List·getD-eq-default}
 use lib.Seq.{drop-cons}
 use borrow.Author.Needs.{needs}
-use borrow.Author.Tests.{not-true, not-false}
+use lib.Dec.{eqb}
+use borrow.Author.Tests.{not-true, not-false, lt-ltb, le-ltb}
 use Rattle.kind.specs.Class.{isSign}
-use Rattle.util.specs.Run.{run, runEnd, signEnd}
+use Rattle.util.specs.Run.{run, runEnd, signEnd, standsAt}
 
 module _ (p : ℕ → Bool) (s : List ℕ) (i : ℕ) where
   pub run-past : length s ≤ i → runEnd p s i ≡ i
@@ -48,4 +49,12 @@ module _ (s : List ℕ) (at : ℕ) where
   unfolding signEnd
   sign-none′ r e q = rw (← e, q)
 
-pub ruleset laws = (needs, stop′, more′, past′, sign-past′, sign-there′, sign-none′)
+  pub stands-past′ : (b : ℕ) → length s ≤ at → false ≡ standsAt b s at
+  unfolding standsAt
+  stands-past′ b h = rw (le-ltb at (length s) h)
+
+  pub stands-inside′ : (b : ℕ) → at < length s → eqb (getD s at 0) b ≡ standsAt b s at
+  unfolding standsAt
+  stands-inside′ b h = rw (lt-ltb at (length s) h)
+
+pub ruleset laws = (needs, stop′, more′, past′, sign-past′, sign-there′, sign-none′, stands-past′, stands-inside′)

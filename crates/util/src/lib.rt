@@ -2,7 +2,7 @@
 ghost use mathlib.Core.Path.{_≡_};
 ghost use Rattle.kind.specs.Text.{ascii};
 ghost use Rattle.kind.specs.Class.{isWhiteSpace, isDigit};
-ghost use Rattle.util.specs.Run.{runEnd, signEnd, every};
+ghost use Rattle.util.specs.Run.{runEnd, signEnd, standsAt, every};
 ghost use Rattle.util.specs.Mnemonic.{folded, eitherCase, alike, same, notSmall, mayLeaveOut, compares, numericSuffixStart, matches};
 
 // The place behind the white space that begins at a place.
@@ -44,6 +44,16 @@ pub fn skip_sign(s: &[u8], at: usize) -> usize
         return at + 1;
     }
     at
+}
+
+// Whether a byte stands at a place.
+pub fn stands(s: &[u8], at: usize, b: u8) -> bool
+    ensures { λ r. ⌜ r ≡ standsAt b (now (s .entry)) at ⌝ }
+{
+    if s.len() <= at {
+        return false;
+    }
+    s[at] == b
 }
 
 // A letter without its case.
@@ -176,7 +186,7 @@ pub fn mnemonic_split_index(mnemonic: &[u8]) -> usize
     mnemonic.len()
 }
 
-// The numeric numericSuffix that means the same as none.
+// The numeric suffix that means the same as none.
 fn is_one(s: &[u8]) -> bool
     ensures { λ r. ⌜ r ≡ same (now (s .entry)) (ascii "1") ⌝ }
 {
@@ -186,7 +196,7 @@ fn is_one(s: &[u8]) -> bool
     s[0] == b'1'
 }
 
-// Whether the word spells the mnemonic, its numeric numericSuffix with it, as `TRIG1` spells `TRIGger`.
+// Whether the word spells the mnemonic, its numeric suffix with it, as `TRIG1` spells `TRIGger`.
 pub fn mnemonic_match(mnemonic: &[u8], s: &[u8]) -> bool
     ensures { λ r. ⌜ r ≡ matches (now (mnemonic .entry)) (now (s .entry)) ⌝ }
 {

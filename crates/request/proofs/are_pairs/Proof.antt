@@ -18,23 +18,23 @@ loop-holds c = search laws
 sub-loop : tie.Need-sub-loop Inv-loop μ-loop
 sub-loop c = search laws
 
-shared-slice-read-hex-digit : tie.Need-shared-slice-read-hex-digit Inv-loop μ-loop
-shared-slice-read-hex-digit c = search laws
+shared-slice-read-digit-value : tie.Need-shared-slice-read-digit-value Inv-loop μ-loop
+shared-slice-read-digit-value c = search laws
 
-hex-digit-requires : tie.Need-hex-digit-requires Inv-loop μ-loop
-hex-digit-requires c κs = search laws
+digit-value-requires : tie.Need-digit-value-requires Inv-loop μ-loop
+digit-value-requires c κs = search laws
 
 returns : tie.Need-returns Inv-loop μ-loop
 returns c = search laws
 
-add-hex-digit : tie.Need-add-hex-digit Inv-loop μ-loop
-add-hex-digit c = search laws
+add-digit-value : tie.Need-add-digit-value Inv-loop μ-loop
+add-digit-value c = search laws
 
-shared-slice-read-hex-digit-2 : tie.Need-shared-slice-read-hex-digit-2 Inv-loop μ-loop
-shared-slice-read-hex-digit-2 c = search laws
+shared-slice-read-digit-value-2 : tie.Need-shared-slice-read-digit-value-2 Inv-loop μ-loop
+shared-slice-read-digit-value-2 c = search laws
 
-hex-digit-requires-2 : tie.Need-hex-digit-requires-2 Inv-loop μ-loop
-hex-digit-requires-2 c κs = search laws
+digit-value-requires-2 : tie.Need-digit-value-requires-2 Inv-loop μ-loop
+digit-value-requires-2 c κs = search laws
 
 returns-2 : tie.Need-returns-2 Inv-loop μ-loop
 returns-2 c = search laws
@@ -59,12 +59,12 @@ are-pairs-spec =
     μ-loop
     loop-holds
     sub-loop
-    shared-slice-read-hex-digit
-    hex-digit-requires
+    shared-slice-read-digit-value
+    digit-value-requires
     returns
-    add-hex-digit
-    shared-slice-read-hex-digit-2
-    hex-digit-requires-2
+    add-digit-value
+    shared-slice-read-digit-value-2
+    digit-value-requires-2
     returns-2
     add-i
     loop-less

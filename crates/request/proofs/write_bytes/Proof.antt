@@ -19,23 +19,23 @@ abbrev μ-loop : tie.MeasureT-loop
 loop-holds : tie.Need-loop-holds Inv-loop μ-loop
 loop-holds c = search laws
 
-shared-slice-read-hex-digit : tie.Need-shared-slice-read-hex-digit Inv-loop μ-loop
-shared-slice-read-hex-digit c = search laws
+shared-slice-read-digit-value : tie.Need-shared-slice-read-digit-value Inv-loop μ-loop
+shared-slice-read-digit-value c = search laws
 
-hex-digit-requires : tie.Need-hex-digit-requires Inv-loop μ-loop
-hex-digit-requires c κs = search laws
+digit-value-requires : tie.Need-digit-value-requires Inv-loop μ-loop
+digit-value-requires c κs = search laws
 
 mul-out : tie.Need-mul-out Inv-loop μ-loop
 mul-out c = search laws
 
-add-hex-digit : tie.Need-add-hex-digit Inv-loop μ-loop
-add-hex-digit c = search laws
+add-digit-value : tie.Need-add-digit-value Inv-loop μ-loop
+add-digit-value c = search laws
 
-shared-slice-read-hex-digit-2 : tie.Need-shared-slice-read-hex-digit-2 Inv-loop μ-loop
-shared-slice-read-hex-digit-2 c = search laws
+shared-slice-read-digit-value-2 : tie.Need-shared-slice-read-digit-value-2 Inv-loop μ-loop
+shared-slice-read-digit-value-2 c = search laws
 
-hex-digit-requires-2 : tie.Need-hex-digit-requires-2 Inv-loop μ-loop
-hex-digit-requires-2 c κs = search laws
+digit-value-requires-2 : tie.Need-digit-value-requires-2 Inv-loop μ-loop
+digit-value-requires-2 c κs = search laws
 
 add-out : tie.Need-add-out Inv-loop μ-loop
 add-out c = search laws
@@ -68,12 +68,12 @@ write-bytes-spec =
     Inv-loop
     μ-loop
     loop-holds
-    shared-slice-read-hex-digit
-    hex-digit-requires
+    shared-slice-read-digit-value
+    digit-value-requires
     mul-out
-    add-hex-digit
-    shared-slice-read-hex-digit-2
-    hex-digit-requires-2
+    add-digit-value
+    shared-slice-read-digit-value-2
+    digit-value-requires-2
     add-out
     slice-write-out
     add-i

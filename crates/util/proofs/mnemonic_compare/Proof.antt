@@ -1,11 +1,6 @@
 use Rattle.util.proofs.Compare.{laws}
 use Rattle.util.proofs.mnemonic_compare.Statement.{statement}
 use Rattle.util.proofs.mnemonic_compare.Tie as tie
-use Rattle.util.proofs.mnemonic_compare.Reads as reads
-use Rattle.util.proofs.mnemonic_compare.Lts as lts
-use Rattle.util.proofs.has_no_small.Reads as has-no-small-reads
-use Rattle.util.proofs.is_alike.Reads as is-alike-reads
-use Rattle.util.proofs.may_leave_out_all.Reads as may-leave-out-all-reads
 
 returns : tie.Need-returns
 returns c = search laws

@@ -1,12 +1,6 @@
 use Rattle.util.proofs.Match.{laws}
 use Rattle.util.proofs.mnemonic_match.Statement.{statement}
 use Rattle.util.proofs.mnemonic_match.Tie as tie
-use Rattle.util.proofs.mnemonic_match.Reads as reads
-use Rattle.util.proofs.mnemonic_match.Lts as lts
-use Rattle.util.proofs.is_equal.Reads as is-equal-reads
-use Rattle.util.proofs.is_one.Reads as is-one-reads
-use Rattle.util.proofs.mnemonic_compare.Reads as mnemonic-compare-reads
-use Rattle.util.proofs.mnemonic_split_index.Reads as mnemonic-split-index-reads
 
 mnemonic-compare-requires : tie.Need-mnemonic-compare-requires
 mnemonic-compare-requires c κs = search laws

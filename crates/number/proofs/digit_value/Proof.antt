@@ -1,6 +1,6 @@
-use Rattle.request.proofs.Digits.{laws}
-use Rattle.request.proofs.hex_digit.Statement.{statement}
-use Rattle.request.proofs.hex_digit.Tie as tie
+use Rattle.number.proofs.Digits.{laws}
+use Rattle.number.proofs.digit_value.Statement.{statement}
+use Rattle.number.proofs.digit_value.Tie as tie
 
 add-result : tie.Need-add-result
 add-result c = search laws
@@ -29,8 +29,8 @@ returns-6 c = search laws
 returns-7 : tie.Need-returns-7
 returns-7 c = search laws
 
-pub hex-digit-spec : {M : Type 1} → statement M
-hex-digit-spec =
+pub digit-value-spec : {M : Type 1} → statement M
+digit-value-spec =
     tie.close
     (tie.spec
     add-result

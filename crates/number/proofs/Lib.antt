@@ -1,0 +1,6 @@
+-- Laws that belong to no one function.
+pub mod Digits
+pub mod Values
+pub mod Laws
+pub mod Signs
+pub mod Claims

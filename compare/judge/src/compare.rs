@@ -13,7 +13,7 @@ const SHOWN: usize = 10;
 /// So many characters of a line are shown.
 const WIDTH: usize = 2_000;
 
-/// Whether every difference is a listed one.
+/// Whether the port answers as the Rust does, or as is listed, in every case.
 pub fn compare(
     kind: &Kind,
     n: usize,
@@ -169,33 +169,34 @@ struct Tally<'a> {
 impl Tally<'_> {
     fn count(&mut self, request: &str, rust: &[u8], port: &[u8]) {
         self.done += 1;
-        if rust != port {
+        let listed = (self.kind.expected)(request, &String::from_utf8_lossy(rust));
+        let right = match &listed {
+            Some((_, answer)) => answer.as_bytes(),
+            None => rust,
+        };
+        if port != rust || port != right {
             self.differ += 1;
-            self.judge(request, rust, port);
+            match listed {
+                Some((entry, _)) if port == right => {
+                    self.listed += 1;
+                    if !self.entries.contains(&entry) {
+                        self.entries.push(entry);
+                        self.show(&format!("differs as listed: {entry}"), request, rust, port);
+                    }
+                }
+                _ if self.differ - self.listed > SHOWN => {}
+                Some((entry, answer)) => {
+                    self.show(&format!("is not as listed: {entry}"), request, rust, port);
+                    println!("  listed   {}", cut(&answer));
+                }
+                None => self.show("differs", request, rust, port),
+            }
         }
         if self.done % (self.n / 20).max(1) == 0 {
             eprintln!(
                 "{}: {} of {}, {} differ",
                 self.kind.name, self.done, self.n, self.differ
             );
-        }
-    }
-
-    fn judge(&mut self, request: &str, rust: &[u8], port: &[u8]) {
-        match (self.kind.listed)(
-            request,
-            &String::from_utf8_lossy(rust),
-            &String::from_utf8_lossy(port),
-        ) {
-            Some(entry) => {
-                self.listed += 1;
-                if !self.entries.contains(&entry) {
-                    self.entries.push(entry);
-                    self.show(&format!("differs as listed: {entry}"), request, rust, port);
-                }
-            }
-            None if self.differ - self.listed <= SHOWN => self.show("differs", request, rust, port),
-            None => {}
         }
     }
 

@@ -6,7 +6,8 @@ mod random;
 mod request;
 mod text;
 
-use std::io::{BufWriter, Write};
+use std::fs::File;
+use std::io::{BufRead, BufReader, BufWriter, Write};
 use std::process::ExitCode;
 
 use kinds::{Kind, KINDS};
@@ -32,6 +33,7 @@ fn run(words: &[&str]) -> Result<bool, String> {
             let (kind, n, seed) = asked(kind, n, seed)?;
             emit((kind.cases)(n, seed).map(String::into_bytes))
         }
+        [kind, "--record", requests, answers] => record(known(kind)?, requests, answers),
         [kind, n, seed, "--rust", rust, "--port", port @ ..] if !port.is_empty() => {
             let (kind, n, seed) = asked(kind, n, seed)?;
             compare::compare(kind, n, seed, &[rust], port)
@@ -46,16 +48,20 @@ fn usage() -> String {
         "usage:\n  \
          judge KIND N SEED --rust PROGRAM --port PROGRAM [ARG..]   compare N cases\n  \
          judge KIND N SEED --emit                                  print their request lines\n  \
+         judge KIND --record REQUESTS ANSWERS                      print the answers to record, given the Rust's\n  \
          judge --questions FILE                                    print the request lines of a file of questions\n\
          KIND is one of: {}; N is at least 1",
         names.join(" ")
     )
 }
 
+fn known(kind: &str) -> Result<&'static Kind, String> {
+    KINDS.iter().find(|k| k.name == kind).ok_or_else(usage)
+}
+
 fn asked(kind: &str, n: &str, seed: &str) -> Result<(&'static Kind, usize, u64), String> {
-    let kind = KINDS.iter().find(|k| k.name == kind).ok_or_else(usage)?;
     let n = n.parse().ok().filter(|n| *n > 0).ok_or_else(usage)?;
-    Ok((kind, n, seed.parse().map_err(|_| usage())?))
+    Ok((known(kind)?, n, seed.parse().map_err(|_| usage())?))
 }
 
 /// Prints the questions of a file; empty lines and lines that begin with `#` are left out.
@@ -72,11 +78,35 @@ fn questions(file: &str) -> Result<bool, String> {
     emit(requests.into_iter())
 }
 
-fn emit(requests: impl Iterator<Item = Vec<u8>>) -> Result<bool, String> {
+/// Prints the right answer to each line of a file of requests: the listed one, else the Rust's, which stand in a file too.
+fn record(kind: &Kind, requests: &str, answers: &str) -> Result<bool, String> {
+    let (requests, answers) = (lines(requests)?, lines(answers)?);
+    if requests.len() != answers.len() {
+        return Err("there must be one answer for each request".to_string());
+    }
+    emit(requests.iter().zip(answers).map(|(request, rust)| {
+        let (request, text) = (
+            String::from_utf8_lossy(request),
+            String::from_utf8_lossy(&rust),
+        );
+        match (kind.expected)(&request, &text) {
+            Some((_, answer)) => answer.into_bytes(),
+            None => rust,
+        }
+    }))
+}
+
+fn lines(file: &str) -> Result<Vec<Vec<u8>>, String> {
+    let said = |e| format!("{file}: {e}");
+    let file = BufReader::new(File::open(file).map_err(said)?);
+    file.split(b'\n').collect::<Result<_, _>>().map_err(said)
+}
+
+fn emit(lines: impl Iterator<Item = Vec<u8>>) -> Result<bool, String> {
     let mut out = BufWriter::new(std::io::stdout().lock());
-    for mut request in requests {
-        request.push(b'\n');
-        out.write_all(&request).map_err(|e| e.to_string())?;
+    for mut line in lines {
+        line.push(b'\n');
+        out.write_all(&line).map_err(|e| e.to_string())?;
     }
     out.flush().map_err(|e| e.to_string())?;
     Ok(true)

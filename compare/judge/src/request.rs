@@ -1,6 +1,7 @@
 //! Request lines, and the readable form of them that the question files are written in and differences are shown in:
-//! `"TRIG"` stands for the hex of the text between the quotes, `\xNN` for a byte, and a backslash at the end of the line
-//! for nothing (so that an empty line can be asked, and a space before it be seen).
+//! `"TRIG"` stands for the hex of the text between the quotes, `\xNN` for a byte, `\n` for a newline, `\"` and `\\` for
+//! these bytes, and a backslash at the end of the line for nothing (so that an empty line can be asked, and a space before
+//! it be seen).
 
 /// The request with this letter and these texts.
 pub fn request(letter: &str, texts: &[&[u8]]) -> String {
@@ -33,6 +34,14 @@ fn unhex(field: &[u8]) -> Option<Vec<u8>> {
         .collect()
 }
 
+/// The letter of a request and its texts. None of a line that has a field which is no hex.
+pub fn parts(request: &str) -> Option<(&str, Vec<Vec<u8>>)> {
+    let mut fields = request.split_ascii_whitespace();
+    let letter = fields.next()?;
+    let texts: Option<_> = fields.map(|field| unhex(field.as_bytes())).collect();
+    Some((letter, texts?))
+}
+
 /// A request in its readable form; every field behind the letter is hex.
 pub fn clear(request: &str) -> String {
     let mut fields = request.split(' ');
@@ -51,7 +60,9 @@ fn quoted(text: &[u8]) -> String {
     let mut line = '"'.to_string();
     for b in text {
         match b {
-            b' '..=b'~' if !b"\"\\".contains(b) => line.push(*b as char),
+            b'\n' => line.push_str("\\n"),
+            b'"' | b'\\' => line.extend(['\\', *b as char]),
+            b' '..=b'~' => line.push(*b as char),
             _ => line.push_str(&format!("\\x{b:02x}")),
         }
     }
@@ -76,11 +87,14 @@ pub fn read(line: &str) -> Option<Vec<u8>> {
             }
             b'\\' if rest.is_empty() => break,
             b'\\' => {
-                let [b'x', high, low, behind @ ..] = rest else {
-                    return None;
+                let (byte, behind) = match rest {
+                    [b'x', high, low, behind @ ..] => (unhex(&[*high, *low])?[0], behind),
+                    [b'n', behind @ ..] => (b'\n', behind),
+                    [byte @ (b'"' | b'\\'), behind @ ..] => (*byte, behind),
+                    _ => return None,
                 };
                 rest = behind;
-                unhex(&[*high, *low])?[0]
+                byte
             }
             byte => *byte,
         };

@@ -15,6 +15,9 @@ pub const ALL: [u8; 256] = {
     all
 };
 
+/// The length of the longest text of a request.
+pub const LONGEST: usize = 65_535;
+
 /// Letters and digits at the ends of their classes, and the bytes just outside.
 pub const BORDERS: &[u8] = b"@AZ[`az{/09:";
 
@@ -72,15 +75,15 @@ pub fn split_tail(text: &[u8]) -> (&[u8], &[u8]) {
 }
 
 /// The text with one fault: a byte replaced, inserted, deleted or doubled, its case bit flipped, the digit tail changed,
-/// or the end cut off. One place in four is the last byte.
-pub fn damaged(random: &mut Random, mut text: Vec<u8>) -> Vec<u8> {
+/// or the end cut off. One place in four is the last byte; one new byte in three is from the pool.
+pub fn damaged(random: &mut Random, pool: &[u8], mut text: Vec<u8>) -> Vec<u8> {
     let place = match random.below(4) {
         0 => text.len().saturating_sub(1),
         _ => random.below(text.len() + 1),
     };
     let byte = match random.below(3) {
         0 => random.pick(BORDERS),
-        1 => random.pick(b"ABCabc0123*_"),
+        1 => random.pick(pool),
         _ => random.pick(&ALL),
     };
     let fault = random.below(7);

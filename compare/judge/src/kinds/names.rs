@@ -1,28 +1,20 @@
 //! Names: `M name word`, answered by what mnemonic_match and mnemonic_compare say of the word for the name.
 
-use super::Cases;
+use super::{mixed, Cases, Listed};
 use crate::random::Random;
 use crate::request::request;
-use crate::text::{damaged, pairs, random_text, recased, split_tail, ALL, BORDERS};
+use crate::text::{self, pairs, random_text, recased, split_tail, ALL, BORDERS, LONGEST};
 
 pub const RESTART: Option<usize> = None;
 
 /// Names have no listed difference.
-pub fn listed(_request: &str, _rust: &str, _port: &str) -> Option<&'static str> {
+pub fn expected(_request: &str, _rust: &str) -> Option<Listed> {
     None
 }
 
-/// Of N cases at most half are short pairs, all there are, in order. The rest is halved: first random pairs, then pairs
-/// that are good or damaged.
 pub fn cases(n: usize, seed: u64) -> Cases {
-    let short = short_pairs().take(n / 2).count();
-    let random = (n - short) / 2;
-    let rest = n - short - random;
     Box::new(
-        short_pairs()
-            .take(short)
-            .chain(random_pairs(seed).take(random))
-            .chain(spelled_pairs(seed).take(rest))
+        mixed(n, short_pairs, random_pairs(seed), spelled_pairs(seed))
             .map(|(name, word)| request("M", &[&name, &word])),
     )
 }
@@ -35,8 +27,7 @@ fn short_pairs() -> impl Iterator<Item = Pair> + Send {
         .chain(pairs(b"Aa1", 5..=5))
 }
 
-/// The longest text of a request. One random pair in so many has that length.
-const LONGEST: usize = 65_535;
+/// One random pair in so many has the greatest length.
 const LONGEST_ONE_IN: usize = 8_192;
 
 const POOLS: [&[u8]; 6] = [
@@ -98,6 +89,10 @@ fn spelled_pairs(seed: u64) -> impl Iterator<Item = Pair> + Send {
         }
         Some((name, word))
     })
+}
+
+fn damaged(random: &mut Random, text: Vec<u8>) -> Vec<u8> {
+    text::damaged(random, b"ABCabc0123*_", text)
 }
 
 /// A name of that length, at least 1: perhaps a star, one or more capitals, small letters, digits that do not begin with 0.

@@ -25,11 +25,6 @@ use Rattle.number.specs.declared.Longer.{Longer}
 use Rattle.number.specs.declared.Longer.the-variants as limited
 use Rattle.number.proofs.Values.{onward, taken, from-zero, no-less, last, past, more}
 
--- a run ends no sooner than it begins
-run-from : (p : ℕ → Bool) (s : List ℕ) (i : ℕ) → i ≤ runEnd p s i
-unfolding runEnd
-run-from p s i = omega arith
-
 -- each base is one of four
 some-base : (radix : Radix) → 0 < baseOf radix
 some-base Binary = omega arith

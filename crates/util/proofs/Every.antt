@@ -2,8 +2,9 @@
 use Prim.Native.Nat.{ℕ, zero, suc, _+_, _≤_, _<_}
 use mathlib.Core.Path.{_≡_, refl, sym, ap, _∙_}
 use mathlib.Core.List.{List, [], _∷_, _++_}
-use mathlib.Core.Bool.{Bool, true, false, not}
+use mathlib.Core.Bool.{Bool, true, false, cond, not, _&&_}
 use native.Mathlib.Numerals.{add-one}
+use native.Mathlib.Omega.{arith}
 use lib.ListN.{length, getD, drop, drop-of-length-le}
 use lib.Seq.{drop-cons}
 use borrow.Author.Needs.{needs}
@@ -42,6 +43,21 @@ module _ (p : ℕ → Bool) where
   unfolding every
   every-weaker q f [] h = refl
   every-weaker q f (b ∷ x) h = and-both (f b (and-left (p b) (every p x) h)) (every-weaker q f x (and-right (p b) (every p x) h))
+
+  -- a text is of the class where its run goes to the end, and nowhere else
+  pub every-run : (x : List ℕ) → every p x ≡ true → run p x ≡ length x
+  unfolding every run
+  every-run [] h = refl
+  every-run (b ∷ x) h = rw (and-left (p b) (every p x) h) (ap suc (every-run x (and-right (p b) (every p x) h)))
+
+  pub run-every : (x : List ℕ) → run p x ≡ length x → every p x ≡ true
+  unfolding every run
+  run-every [] h = refl
+  run-every (b ∷ x) h = go (p b) (run-every x) h
+    where
+      go : (c : Bool) → (run p x ≡ length x → every p x ≡ true) → cond c (suc (run p x)) 0 ≡ suc (length x) → (c && every p x) ≡ true
+      go true ih k = ih (omega (arith, k))
+      go false ih k = absurd (omega (arith, k))
 
   -- a text of the class is run through whole, up to one that is not of the class
   pub run-whole : (x y : List ℕ) → every p x ≡ true → run p y ≡ 0 → run p (x ++ y) ≡ length x

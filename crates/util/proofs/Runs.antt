@@ -1,12 +1,12 @@
 -- Laws of runs, over any class p, as a loop that passes over one meets them.
-use Prim.Native.Nat.{ℕ, _+_, _≤_, _<_}
-use mathlib.Core.Path.{_≡_, sym, _∙_}
-use mathlib.Core.List.{List}
-use mathlib.Core.Bool.{Bool, true, false, not}
+use Prim.Native.Nat.{ℕ, suc, _+_, _≤_, _<_}
+use mathlib.Core.Path.{_≡_, refl, sym, _∙_}
+use mathlib.Core.List.{List, [], _∷_}
+use mathlib.Core.Bool.{Bool, true, false, cond, not}
 use native.Mathlib.Omega.{arith}
 use native.Mathlib.Numerals.{add-one}
-use lib.ListN.{length, getD, drop-of-length-le, List·getD-eq-default}
-use lib.Seq.{drop-cons}
+use lib.ListN.{length, getD, drop, drop-of-length-le, List·getD-eq-default}
+use lib.Seq.{drop-cons, drop-drop}
 use borrow.Author.Needs.{needs}
 use lib.Dec.{eqb}
 use borrow.Author.Tests.{not-true, not-false, lt-ltb, le-ltb}
@@ -25,6 +25,26 @@ module _ (p : ℕ → Bool) (s : List ℕ) (i : ℕ) where
   pub run-more : i < length s → p (getD s i 0) ≡ true → runEnd p s i ≡ runEnd p s (i + 1)
   unfolding runEnd run
   run-more h e = rw (drop-cons s i 0, e, add-one) (omega arith)
+
+-- behind a run there is none of its class
+none-left : (p : ℕ → Bool) (t : List ℕ) → run p (drop (run p t) t) ≡ 0
+unfolding run
+none-left p [] = refl
+none-left p (b ∷ t) = go (p b) refl (none-left p t)
+  where
+    go : (c : Bool) → p b ≡ c → run p (drop (run p t) t) ≡ 0 → run p (drop (cond c (suc (run p t)) 0) (b ∷ t)) ≡ 0
+    go true e ih = ih
+    go false e ih = rw e
+
+module _ (p : ℕ → Bool) (s : List ℕ) (i : ℕ) where
+  pub run-again : runEnd p s (runEnd p s i) ≡ runEnd p s i
+  unfolding runEnd
+  run-again = rw (← drop-drop (run p (drop i s)) i s, none-left p (drop i s)) (omega arith)
+
+  -- a run ends no sooner than it begins
+  pub run-from : i ≤ runEnd p s i
+  unfolding runEnd
+  run-from = omega arith
 
 module _ (p : ℕ → Bool) (s : List ℕ) (at i : ℕ) (inv : runEnd p s at ≡ runEnd p s i) where
   pub stop′ : (r : Bool) → i < length s → r ≡ p (getD s i 0) → not r ≡ true → i ≡ runEnd p s at

@@ -1,8 +1,1 @@
-pub mod Follow
-pub mod Word
-pub mod Decimal
-pub mod Nondecimal
-pub mod String
-pub mod Block
-pub mod Expression
 pub mod Step

@@ -1,13 +1,11 @@
 // The token step. tokenizer/mod.rs of the original.
-pub mod data;
-
 ghost use mathlib.Core.Path.{_≡_};
 ghost use mathlib.Core.Bool.{true, false};
 ghost use Rattle.tokenizer.specs.Step.{stateOf, inCommon, ofMessage, ofData, taken, refusal, readAs, newlineBefore, followsColon, colonBefore, followsQuery, questionBefore, commaBefore, wordAt, outside, step};
-ghost use Rattle.tokenizer.specs.Word.{mnemonic};
-ghost use Rattle.tokenizer.specs.Decimal.{numericData};
-ghost use Rattle.tokenizer.specs.String.{stringData};
-ghost use Rattle.tokenizer.specs.Block.{hashData};
+ghost use Rattle.data.specs.Word.{mnemonic};
+ghost use Rattle.data.specs.Decimal.{numericData};
+ghost use Rattle.data.specs.String.{stringData};
+ghost use Rattle.data.specs.Block.{hashData};
 use data::Read;
 use error::ErrorCode;
 use token::Token;

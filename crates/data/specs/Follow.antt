@@ -1,0 +1,31 @@
+-- What may follow an item of program data.
+use Prim.Native.Nat.{ℕ, _+_}
+use mathlib.Core.List.{List}
+use mathlib.Core.Bool.{Bool, cond, _||_}
+use lib.Dec.{leb}
+use lib.ListN.{length, getD, take, drop}
+use Rattle.error.specs.declared.ErrorCode.{ErrorCode}
+use Rattle.kind.specs.Class.{is, isWhiteSpace}
+use Rattle.util.specs.Run.{run, runEnd}
+use Rattle.token.specs.declared.Token.{Token}
+use Rattle.data.specs.declared.Read.{Read}
+use Rattle.data.specs.declared.Read.the-variants as read
+
+-- a token, and the place behind it
+abbrev pub token : Token → ℕ → Read
+token = read.Token
+
+abbrev pub refused : ErrorCode → Read
+refused = read.Refused
+
+-- the end of the text, a data separator (IEEE 488.2 7.4.2) or a unit separator (7.4.1)
+unfoldable pub endsData : List ℕ → ℕ → Bool
+endsData s at = leb (length s) at || (is "," (getD s at 0) || is ";" (getD s at 0))
+
+-- an item that ends at a place: behind it white space, and then one of these; with anything else it is refused
+unfoldable pub followed : Token → ErrorCode → List ℕ → ℕ → Read
+followed t e s end = cond (endsData s (runEnd isWhiteSpace s end)) (token t (runEnd isWhiteSpace s end)) (refused e)
+
+-- how far the class p goes among the next n characters
+unfoldable pub runEndAmong : ℕ → (ℕ → Bool) → List ℕ → ℕ → ℕ
+runEndAmong n p s at = at + run p (take n (drop at s))

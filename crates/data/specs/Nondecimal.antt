@@ -1,0 +1,24 @@
+-- Nondecimal numeric program data, IEEE 488.2 7.7.4.
+use Prim.Native.Nat.{ℕ}
+use mathlib.Core.List.{List}
+use mathlib.Core.Bool.{cond}
+use lib.Dec.{leb}
+use lib.ListN.{length}
+use Rattle.error.specs.declared.ErrorCode.the-variants.{NumericDataError, InvalidCharacterInNumber, SuffixNotAllowed, DataOutOfRange}
+use Rattle.number.specs.Number.{unsignedAt}
+use Rattle.number.specs.declared.Radix.{Radix}
+use Rattle.number.specs.declared.Unsigned.{Unsigned}
+use Rattle.number.specs.declared.Unsigned.the-variants.{Value, NoDigit, TooLarge}
+use Rattle.token.specs.declared.Token.the-variants.{NonDecimalNumericProgramData}
+use Rattle.data.specs.Follow.{refused, followed}
+use Rattle.data.specs.declared.Read.{Read}
+
+-- what was found at a place; nothing at all differs there from a byte that is no digit
+unfoldable pub nondecimalOf : List ℕ → ℕ → Unsigned → Read
+nondecimalOf s at (Value v end) = followed (NonDecimalNumericProgramData v) SuffixNotAllowed s end
+nondecimalOf s at TooLarge = refused DataOutOfRange
+nondecimalOf s at NoDigit = cond (leb (length s) at) (refused NumericDataError) (refused InvalidCharacterInNumber)
+
+-- IEEE 488.2 7.7.4.2: the digits of a radix, from the place behind its letter
+unfoldable pub nondecimalData : Radix → List ℕ → ℕ → Read
+nondecimalData radix s at = nondecimalOf s at (unsignedAt radix s at)

@@ -8,3 +8,9 @@ pub mod Strings
 pub mod Blocks
 pub mod Definite
 pub mod Expressions
+pub mod Seams
+pub mod Accepted
+pub mod Forms
+pub mod Numbers
+pub mod NumberForms
+pub mod Claims

@@ -1,0 +1,149 @@
+-- What an accepted item tells of the tests on its way, and of its view.
+use Prim.Native.Nat.{ℕ, suc, _+_, _-_, _≤_, _<_}
+use mathlib.Core.Path.{_≡_, refl, sym, ap, _∙_}
+use mathlib.Core.List.{List, [], _∷_, _++_}
+use mathlib.Core.Bool.{Bool, true, false, cond, true≢false, false≢true}
+use mathlib.Core.Logic.{⊎-elim}
+use native.Mathlib.Nat.{le-refl}
+use native.Mathlib.Omega.{arith}
+use lib.ListN.{length, take, drop, length-drop}
+use lib.Seq.{take-add, drop-drop}
+use borrow.Author.Tests.{le-leb, ltb-true}
+use Rattle.error.specs.declared.ErrorCode.{ErrorCode}
+use Rattle.kind.specs.Class.{isWhiteSpace}
+use Rattle.kind.proofs.Tests.{and-left, and-both, less-or-not}
+use Rattle.util.specs.Run.{run, runEnd, every, standsAt}
+use Rattle.util.proofs.Runs.{run-from, run-past}
+use Rattle.number.proofs.Values.{taken}
+use Rattle.token.specs.View.{viewOf, partOf}
+use Rattle.token.specs.declared.View.{View}
+use Rattle.token.specs.declared.Token.{Token}
+use Rattle.token.specs.declared.Token.the-variants.{HeaderMnemonicSeparator, HeaderQuerySuffix, ProgramMessageUnitSeparator, ProgramHeaderSeparator, ProgramDataSeparator, ProgramMnemonic, CharacterProgramData, DecimalNumericProgramData, DecimalNumericSuffixProgramData, NonDecimalNumericProgramData, StringProgramData, ArbitraryBlockData, ExpressionProgramData}
+use Rattle.data.specs.Follow.{token, refused, endsData, followed}
+use Rattle.data.specs.declared.Read.{Read}
+use Rattle.data.specs.declared.Read.the-variants as read
+
+abbrev isToken : Read → Bool
+isToken (read.Token t next) = true
+isToken (read.Refused e) = false
+
+abbrev tokenIn : Read → Token
+tokenIn (read.Token t next) = t
+tokenIn (read.Refused e) = ProgramDataSeparator
+
+-- the view of a token that has one view, and the suffix of a number
+abbrev pub viewIn : Token → View
+viewIn (ProgramMnemonic v) = v
+viewIn (CharacterProgramData v) = v
+viewIn (DecimalNumericProgramData v) = v
+viewIn (DecimalNumericSuffixProgramData v u) = v
+viewIn (StringProgramData v) = v
+viewIn (ArbitraryBlockData v) = v
+viewIn (ExpressionProgramData v) = v
+viewIn (NonDecimalNumericProgramData n) = viewOf 0 0
+viewIn HeaderMnemonicSeparator = viewOf 0 0
+viewIn HeaderQuerySuffix = viewOf 0 0
+viewIn ProgramMessageUnitSeparator = viewOf 0 0
+viewIn ProgramHeaderSeparator = viewOf 0 0
+viewIn ProgramDataSeparator = viewOf 0 0
+
+abbrev pub suffixIn : Token → View
+suffixIn (DecimalNumericSuffixProgramData v u) = u
+suffixIn (ProgramMnemonic v) = v
+suffixIn (CharacterProgramData v) = v
+suffixIn (DecimalNumericProgramData v) = v
+suffixIn (StringProgramData v) = v
+suffixIn (ArbitraryBlockData v) = v
+suffixIn (ExpressionProgramData v) = v
+suffixIn (NonDecimalNumericProgramData n) = viewOf 0 0
+suffixIn HeaderMnemonicSeparator = viewOf 0 0
+suffixIn HeaderQuerySuffix = viewOf 0 0
+suffixIn ProgramMessageUnitSeparator = viewOf 0 0
+suffixIn ProgramHeaderSeparator = viewOf 0 0
+suffixIn ProgramDataSeparator = viewOf 0 0
+
+-- a number with a suffix
+abbrev pub hasSuffix : Token → Bool
+hasSuffix (DecimalNumericSuffixProgramData v u) = true
+hasSuffix (ProgramMnemonic v) = false
+hasSuffix (CharacterProgramData v) = false
+hasSuffix (DecimalNumericProgramData v) = false
+hasSuffix (StringProgramData v) = false
+hasSuffix (ArbitraryBlockData v) = false
+hasSuffix (ExpressionProgramData v) = false
+hasSuffix (NonDecimalNumericProgramData n) = false
+hasSuffix HeaderMnemonicSeparator = false
+hasSuffix HeaderQuerySuffix = false
+hasSuffix ProgramMessageUnitSeparator = false
+hasSuffix ProgramHeaderSeparator = false
+hasSuffix ProgramDataSeparator = false
+
+module _ (t : Token) (next : ℕ) where
+  pub only-then : (c : Bool) (x : Read) (e : ErrorCode) → cond c x (refused e) ≡ token t next → (c ≡ true) × (x ≡ token t next)
+  only-then true x e h = (refl, h)
+  only-then false x e h = absurd (false≢true (ap isToken h))
+
+  pub only-else : (c : Bool) (y : Read) (e : ErrorCode) → cond c (refused e) y ≡ token t next → (c ≡ false) × (y ≡ token t next)
+  only-else true y e h = absurd (false≢true (ap isToken h))
+  only-else false y e h = (refl, h)
+
+  pub only-token : (r : ErrorCode) → refused r ≡ token t next → ⊥
+  only-token r h = false≢true (ap isToken h)
+
+  pub only-followed : (u : Token) (e : ErrorCode) (s : List ℕ) (end : ℕ) → followed u e s end ≡ token t next → u ≡ t
+  unfolding followed
+  only-followed u e s end h = ap tokenIn (only-then (endsData s (runEnd isWhiteSpace s end)) (token u (runEnd isWhiteSpace s end)) e h .1)
+
+of-class : (p : ℕ → Bool) (t : List ℕ) → every p (take (run p t) t) ≡ true
+unfolding run every
+of-class p [] = refl
+of-class p (b ∷ t) = go (p b) refl (of-class p t)
+  where
+    go : (c : Bool) → p b ≡ c → every p (take (run p t) t) ≡ true → every p (take (cond c (suc (run p t)) 0) (b ∷ t)) ≡ true
+    go true e ih = and-both e ih
+    go false e ih = refl
+
+run-short : (p : ℕ → Bool) (t : List ℕ) → run p t ≤ length t
+unfolding run
+run-short p [] = le-refl 0
+run-short p (b ∷ t) = go (p b) (run-short p t)
+  where
+    go : (c : Bool) → run p t ≤ length t → cond c (suc (run p t)) 0 ≤ suc (length t)
+    go true ih = omega (arith, ih)
+    go false ih = omega arith
+
+-- the part of a text from one place up to another
+abbrev pub part : List ℕ → ℕ → ℕ → List ℕ
+part s a b = take (b - a) (drop a s)
+
+module _ (s : List ℕ) where
+  pub part-shown : (a b : ℕ) → a ≤ b → b ≤ length s → partOf s (viewOf a b) ≡ part s a b
+  unfolding partOf
+  part-shown a b h k = rw (le-leb b (length s) k, le-leb a b h)
+
+  pub part-joined : (a b c : ℕ) → a ≤ b → b ≤ c → part s a c ≡ part s a b ++ part s b c
+  part-joined a b c h k =
+      let e : c - a ≡ (b - a) + (c - b) = omega arith in
+      let f : a + (b - a) ≡ b = omega arith in
+      rw e (take-add (b - a) (c - b) (drop a s) ∙ ap (λ (x : List ℕ). part s a b ++ take (c - b) x) (drop-drop (b - a) a s ∙ rw f))
+
+  -- the part that a run goes through is of its class
+  pub part-run : (p : ℕ → Bool) (a : ℕ) → every p (part s a (runEnd p s a)) ≡ true
+  unfolding runEnd
+  part-run p a =
+      let e : a + run p (drop a s) - a ≡ run p (drop a s) = omega arith in
+      rw e (of-class p (drop a s))
+
+  pub part-length : (p : ℕ → Bool) (a : ℕ) → length (part s a (runEnd p s a)) ≡ runEnd p s a - a
+  unfolding runEnd
+  part-length p a =
+      let e : a + run p (drop a s) - a ≡ run p (drop a s) = omega arith in
+      rw e (taken p (drop a s))
+
+  -- a run that moves begins inside the text, and ends there
+  pub run-inside : (p : ℕ → Bool) (a : ℕ) → a < runEnd p s a → a < length s
+  run-inside p a h = ⊎-elim (λ k. k) (λ k. absurd (omega (arith, run-past p s a k))) (less-or-not a (length s))
+
+  pub run-most : (p : ℕ → Bool) (a : ℕ) → a ≤ length s → runEnd p s a ≤ length s
+  unfolding runEnd
+  run-most p a h = omega (arith, run-short p (drop a s), length-drop a s)

@@ -1,19 +1,19 @@
 -- What an accepted item tells of the tests on its way, and of its view.
 use Prim.Native.Nat.{ℕ, suc, _+_, _-_, _≤_, _<_}
-use mathlib.Core.Path.{_≡_, refl, sym, ap, _∙_}
+use mathlib.Core.Path.{_≡_, refl, ap, _∙_}
 use mathlib.Core.List.{List, [], _∷_, _++_}
-use mathlib.Core.Bool.{Bool, true, false, cond, true≢false, false≢true}
+use mathlib.Core.Bool.{Bool, true, false, cond, false≢true}
 use mathlib.Core.Logic.{⊎-elim}
 use native.Mathlib.Nat.{le-refl}
 use native.Mathlib.Omega.{arith}
 use lib.ListN.{length, take, drop, length-drop}
 use lib.Seq.{take-add, drop-drop}
-use borrow.Author.Tests.{le-leb, ltb-true}
+use borrow.Author.Tests.{le-leb}
 use Rattle.error.specs.declared.ErrorCode.{ErrorCode}
 use Rattle.kind.specs.Class.{isWhiteSpace}
-use Rattle.kind.proofs.Tests.{and-left, and-both, less-or-not}
-use Rattle.util.specs.Run.{run, runEnd, every, standsAt}
-use Rattle.util.proofs.Runs.{run-from, run-past}
+use Rattle.kind.proofs.Tests.{and-both, less-or-not}
+use Rattle.util.specs.Run.{run, runEnd, every}
+use Rattle.util.proofs.Runs.{run-past}
 use Rattle.number.proofs.Values.{taken}
 use Rattle.token.specs.View.{viewOf, partOf}
 use Rattle.token.specs.declared.View.{View}

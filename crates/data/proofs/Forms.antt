@@ -1,21 +1,21 @@
 -- Strings, definite blocks and expressions: what is accepted has the form, and what has the form is accepted.
 use Prim.Native.Nat.{ℕ, suc, _+_, _-_, _≤_, _<_}
-use mathlib.Core.Path.{_≡_, refl, sym, ap, _∙_}
+use mathlib.Core.Path.{_≡_, refl, ap, _∙_}
 use mathlib.Core.List.{List, [], _∷_, _++_}
-use mathlib.Core.Bool.{Bool, true, false, cond, _&&_, _||_}
+use mathlib.Core.Bool.{Bool, true, false, cond, _&&_}
 use mathlib.Core.Logic.{⊎-elim}
 use native.Mathlib.Omega.{arith}
 use lib.Dec.{eqb, leb, ltb}
-use lib.ListN.{length, getD, take, drop, length-append, length-drop}
+use lib.ListN.{length, getD, take, drop, length-append}
 use lib.Seq.{take-append-seam}
-use borrow.Author.Tests.{eq-eqb, ne-eqb, eqb-true, leb-true, le-leb, lt-leb, ltb-true, lt-ltb, leb-false}
+use borrow.Author.Tests.{eq-eqb, eqb-true, leb-true, le-leb, lt-leb, ltb-true, lt-ltb, leb-false}
 use Rattle.error.specs.declared.ErrorCode.the-variants.{SuffixNotAllowed, InvalidCharacter, InvalidStringData, InvalidBlockData, InvalidExpression}
-use Rattle.kind.specs.Class.{isWhiteSpace, isDigit, isQuote, isAscii}
+use Rattle.kind.specs.Class.{isDigit, isQuote, isAscii}
 use Rattle.kind.proofs.Tests.{either, and-left, and-right}
-use Rattle.util.specs.Run.{run, runEnd, every, standsAt}
+use Rattle.util.specs.Run.{runEnd, every, standsAt}
 use Rattle.util.proofs.Runs.{run-from}
 use Rattle.number.specs.Digit.{valueOf}
-use Rattle.token.specs.View.{viewOf, partOf}
+use Rattle.token.specs.View.{viewOf}
 use Rattle.token.specs.declared.View.{View}
 use Rattle.token.specs.declared.Token.the-variants.{StringProgramData, ArbitraryBlockData, ExpressionProgramData}
 use Rattle.data.specs.Follow.{token, refused, followed}
@@ -24,7 +24,7 @@ use Rattle.data.specs.Block.{payload, definite}
 use Rattle.data.specs.Expression.{inExpression, bracketed, expressionData}
 use Rattle.data.specs.Form.{Follows, StringBody, StringForm, BlockForm, ExpressionForm}
 use Rattle.data.specs.Form.StringBody.{empty, plain, doubled}
-use Rattle.data.proofs.Accepted.{viewIn, only-then, only-else, only-followed, part, part-shown, part-run}
+use Rattle.data.proofs.Accepted.{viewIn, only-then, only-else, only-followed, part-shown, part-run}
 use Rattle.data.proofs.Strings.{plain as in-plain, doubled as in-doubled}
 use Rattle.data.proofs.Seams.{here-get, here-inside, here-stands, here-next, here-run, here-length, after-none, white-none, well-followed}
 

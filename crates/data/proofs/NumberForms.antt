@@ -1,5 +1,5 @@
 -- Decimal numbers: what is accepted has the form.
-use Prim.Native.Nat.{ℕ, suc, _+_, _-_, _≤_, _<_}
+use Prim.Native.Nat.{ℕ, _+_, _-_, _≤_, _<_}
 use mathlib.Core.Path.{_≡_, refl, sym, ap, _∙_}
 use mathlib.Core.List.{List, [], _∷_, _++_}
 use mathlib.Core.Bool.{Bool, true, false, cond, _||_, true≢false, false≢true, and-true}
@@ -11,13 +11,13 @@ use lib.Seq.{drop-cons}
 use borrow.Author.Tests.{eqb-true, ltb-true, leb-true}
 use Rattle.error.specs.declared.ErrorCode.the-variants.{NumericDataError, InvalidSuffix, SuffixTooLong}
 use Rattle.kind.specs.Class.{isWhiteSpace, isSign, isDigit}
-use Rattle.kind.proofs.Tests.{either, and-left, and-right, clash, less-or-not}
+use Rattle.kind.proofs.Tests.{and-left, and-right, less-or-not}
 use Rattle.util.specs.Run.{runEnd, signEnd, every, standsAt}
 use Rattle.util.proofs.Runs.{run-from}
 use Rattle.token.specs.View.{viewOf, partOf}
 use Rattle.token.specs.declared.View.{View}
 use Rattle.token.specs.declared.Token.the-variants.{DecimalNumericProgramData, DecimalNumericSuffixProgramData}
-use Rattle.data.specs.Follow.{token, refused, followed}
+use Rattle.data.specs.Follow.{token, followed}
 use Rattle.data.specs.Decimal.{wholeEnd, hasWhole, fractionEnd, hasFraction, mantissa, beginsExponent, exponent, withExponent, number, inSuffix, beginsSuffix, suffixed, suffixData, numericTo, numericData}
 use Rattle.data.specs.Form.{Whole, Fraction, Exponent, Number, Suffix}
 use Rattle.data.specs.declared.Place.{Place}

@@ -1,26 +1,25 @@
 -- Decimal numbers: what has the form is accepted.
-use Prim.Native.Nat.{ℕ, suc, _+_, _-_, _≤_, _<_}
-use mathlib.Core.Path.{_≡_, refl, sym, ap, _∙_}
+use Prim.Native.Nat.{ℕ, _+_, _-_, _≤_, _<_}
+use mathlib.Core.Path.{_≡_, refl, ap, _∙_}
 use mathlib.Core.List.{List, [], _∷_, _++_, append-assoc}
-use mathlib.Core.Bool.{Bool, true, false, cond, _&&_, _||_, and-false}
-use mathlib.Core.Logic.{_⊎_, inl, inr, ⊎-elim}
+use mathlib.Core.Bool.{Bool, true, false, _||_, and-false}
+use mathlib.Core.Logic.{_⊎_, ⊎-elim}
 use native.Mathlib.Omega.{arith}
-use native.Mathlib.Nat.{add-zero}
 use lib.Dec.{eqb, leb, ltb}
 use lib.ListN.{length, getD, drop, length-append}
 use borrow.Author.Tests.{ne-eqb, eqb-true, leb-true, lt-ltb, le-ltb}
 use Rattle.error.specs.declared.ErrorCode.the-variants.{InvalidSuffix}
 use Rattle.kind.specs.Text.{ascii}
-use Rattle.kind.specs.Class.{isWhiteSpace, isSign, isDigit, isLetter, isCapital, isSmall}
+use Rattle.kind.specs.Class.{isSign, isDigit, isLetter, isCapital, isSmall}
 use Rattle.kind.proofs.Tests.{either, and-left, less-or-not}
-use Rattle.util.specs.Run.{runEnd, signEnd, every, standsAt}
+use Rattle.util.specs.Run.{signEnd, every, standsAt}
 use Rattle.token.specs.View.{viewOf}
 use Rattle.token.specs.declared.Token.the-variants.{DecimalNumericProgramData}
-use Rattle.data.specs.Follow.{token, endsData}
+use Rattle.data.specs.Follow.{token}
 use Rattle.data.specs.Decimal.{wholeEnd, hasWhole, fractionEnd, hasFraction, mantissa, beginsExponent, exponent, withExponent, number, beginsSuffix, suffixData, numericTo, numericData}
 use Rattle.data.specs.Form.{Follows, Whole, Fraction, Exponent, Number}
-use Rattle.data.specs.declared.Place.the-variants.{At, Nowhere}
-use Rattle.data.proofs.Seams.{here-get, here-inside, here-stands, here-next, here-run, here-length, after-none, end-none, white-none, white-run, well-followed}
+use Rattle.data.specs.declared.Place.the-variants.{At}
+use Rattle.data.proofs.Seams.{here-get, here-stands, here-next, here-run, after-none, end-none, white-none, white-run, well-followed}
 
 digit-no-sign : (b : ℕ) → isDigit b ≡ true → isSign b ≡ false
 unfolding isDigit isSign

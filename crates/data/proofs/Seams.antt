@@ -1,21 +1,20 @@
 -- What stands at a place of a text, told from what the text is made of from there on.
-use Prim.Native.Nat.{ℕ, zero, suc, _+_, _-_, _≤_, _<_}
+use Prim.Native.Nat.{ℕ, suc, _+_, _-_, _<_}
 use mathlib.Core.Path.{_≡_, refl, sym, ap, _∙_}
 use mathlib.Core.List.{List, [], _∷_, _++_}
-use mathlib.Core.Bool.{Bool, true, false, cond, _||_}
+use mathlib.Core.Bool.{Bool, true, false, _||_}
 use mathlib.Core.Logic.{⊎-elim}
 use native.Mathlib.Omega.{arith}
 use native.Mathlib.Nat.{add-zero}
-use lib.Dec.{eqb, leb}
-use lib.ListN.{length, getD, take, drop, length-append, length-drop}
-use lib.Seq.{drop-append-seam, drop-drop, getD-drop, take-add, drop-cons}
-use borrow.Author.Tests.{eq-eqb, eqb-true, leb-true, le-leb, lt-leb, lt-ltb}
+use lib.Dec.{eqb}
+use lib.ListN.{length, getD, drop, length-drop}
+use lib.Seq.{drop-append-seam, drop-drop, getD-drop}
+use borrow.Author.Tests.{eq-eqb, eqb-true, le-leb, lt-leb, lt-ltb}
 use Rattle.error.specs.declared.ErrorCode.{ErrorCode}
 use Rattle.kind.specs.Class.{isWhiteSpace}
 use Rattle.kind.proofs.Tests.{either, and-left}
 use Rattle.util.specs.Run.{run, runEnd, every, standsAt}
 use Rattle.util.proofs.Every.{run-whole}
-use Rattle.util.proofs.Runs.{run-past}
 use Rattle.token.specs.declared.Token.{Token}
 use Rattle.data.specs.Follow.{token, endsData, followed}
 use Rattle.data.specs.Form.{Follows}

@@ -14,3 +14,4 @@ pub mod Forms
 pub mod Numbers
 pub mod NumberForms
 pub mod Claims
+pub mod Progress

@@ -24,6 +24,7 @@ use Rattle.data.specs.declared.Place.{Place}
 use Rattle.data.specs.declared.Place.the-variants.{At, Nowhere}
 use Rattle.data.proofs.Accepted.{viewIn, suffixIn, hasSuffix, only-then, only-token, only-followed, part, part-shown, part-joined, part-run, part-length, run-inside, run-most}
 use Rattle.data.proofs.Decimals.{fraction-from}
+use Rattle.data.proofs.Progress.{sign-from, whole-from}
 
 abbrev isAt : Place → Bool
 isAt (At i) = true
@@ -51,14 +52,6 @@ module _ (s : List ℕ) (i : ℕ) where
   part-one : i < length s → part s i (i + 1) ≡ getD s i 0 ∷ []
   part-one h = let e : i + 1 - i ≡ 1 = omega arith in rw (e, drop-cons s i 0 h)
 
-  sign-from : i ≤ signEnd s i
-  unfolding signEnd
-  sign-from = go (isSign (getD s i 0))
-    where
-      go : (c : Bool) → i ≤ cond c (i + 1) i
-      go true = omega arith
-      go false = omega arith
-
   sign-most : i ≤ length s → signEnd s i ≤ length s
   unfolding signEnd isSign
   sign-most h = go (isSign (getD s i 0)) refl
@@ -83,7 +76,7 @@ module _ (s : List ℕ) (i : ℕ) where
       record {
         sign = part s i (signEnd s i);
         digits = part s (signEnd s i) (runEnd isDigit s (signEnd s i));
-        parts = part-joined s i (signEnd s i) (runEnd isDigit s (signEnd s i)) sign-from (run-from isDigit s (signEnd s i));
+        parts = part-joined s i (signEnd s i) (runEnd isDigit s (signEnd s i)) (sign-from s i) (run-from isDigit s (signEnd s i));
         one-sign = sign-part .1;
         all-sign = sign-part .0;
         all-digit = part-run s isDigit (signEnd s i);
@@ -92,10 +85,6 @@ module _ (s : List ℕ) (i : ℕ) where
   whole-count : length (whole-form .digits) ≡ wholeEnd s i - signEnd s i
   unfolding whole-form wholeEnd
   whole-count = part-length s isDigit (signEnd s i)
-
-  whole-from : i ≤ wholeEnd s i
-  unfolding wholeEnd
-  whole-from = omega (arith, sign-from, run-from isDigit s (signEnd s i))
 
   whole-most : i ≤ length s → wholeEnd s i ≤ length s
   unfolding wholeEnd

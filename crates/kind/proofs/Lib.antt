@@ -3,3 +3,4 @@ pub mod Tests
 pub mod Bytes
 pub mod Classes
 pub mod Laws
+pub mod OfKind

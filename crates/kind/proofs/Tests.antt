@@ -2,7 +2,7 @@
 use Prim.Native.Nat.{ℕ, zero, suc, _≤_, _<_, zero-le, suc-le-suc}
 use mathlib.Core.Path.{_≡_, refl, sym, _∙_}
 use mathlib.Core.Logic.{_⊎_, inl, inr, ⊎-elim}
-use mathlib.Core.Bool.{Bool, true, false, _&&_, _||_, false≢true, true≢false}
+use mathlib.Core.Bool.{Bool, true, false, cond, _&&_, _||_, false≢true, true≢false}
 
 pub both-ways : (a b : Bool) → (a ≡ true → b ≡ true) → (b ≡ true → a ≡ true) → a ≡ b
 both-ways true b f g = sym (f refl)
@@ -38,3 +38,8 @@ pub less-or-not : (a b : ℕ) → (a < b) ⊎ (b ≤ a)
 less-or-not a zero = inr zero-le
 less-or-not zero (suc b) = inl (suc-le-suc zero-le)
 less-or-not (suc a) (suc b) = ⊎-elim (λ h. inl (suc-le-suc h)) (λ h. inr (suc-le-suc h)) (less-or-not a b)
+
+-- what holds on both sides of a test, each knowing how it went
+pub by-test : {A : Type 0} (P : A → Type 0) {x y : A} (c : Bool) → (c ≡ true → P x) → (c ≡ false → P y) → P (cond c x y)
+by-test P true f g = f refl
+by-test P false f g = g refl

@@ -1,0 +1,93 @@
+-- The claims.
+use Prim.Native.Nat.{ℕ, zero, suc, _+_, _≤_, _<_}
+use mathlib.Core.Path.{_≡_, refl, sym, ap, _∙_}
+use mathlib.Core.Logic.{⊎-elim}
+use mathlib.Core.List.{List}
+use mathlib.Core.Bool.{Bool, true, false, true≢false}
+use native.Mathlib.Omega.{arith}
+use lib.ListN.{length}
+use Rattle.error.specs.declared.ErrorCode.{ErrorCode}
+use Rattle.kind.specs.Class.{isWhiteSpace, isCapital, isSmall, isDigit, isLetter, inMnemonic, isSign, isQuote}
+use Rattle.kind.specs.Kind.{kindOf}
+use Rattle.kind.proofs.Tests.{less-or-not}
+use Rattle.util.specs.Run.{run, runEnd, signEnd, standsAt, every}
+use Rattle.number.specs.Digit.{digitOf, isDigitOf, valueOf}
+use Rattle.number.specs.Number.{digits, foundAt, unsignedOf, unsignedAt}
+use Rattle.data.specs.Follow.{endsData, followed}
+use Rattle.data.specs.Word.{starEnd, mnemonic}
+use Rattle.data.specs.Decimal.{wholeEnd, hasWhole, fractionEnd, mantissa, beginsExponent, exponent, withExponent, number, inSuffix, beginsSuffix, suffixed, suffixData, numericTo, numericData}
+use Rattle.data.specs.Nondecimal.{nondecimalOf, nondecimalData}
+use Rattle.data.specs.Block.{payload, definite, indefinite, arbitraryData, hashBy, hashData}
+use Rattle.tokenizer.specs.Step.{stateOf, inHeader, inCommon, taken, refusal, ended, readAs, outside, byKind, step}
+use Rattle.tokenizer.specs.Claims.{after, Rows, Claims}
+use Rattle.tokenizer.specs.declared.State.{State}
+use Rattle.tokenizer.specs.declared.Answer.{Answer}
+use Rattle.tokenizer.specs.declared.Answer.the-variants.{Token, Refused, End}
+use Rattle.tokenizer.specs.declared.Step.{Step}
+use Rattle.tokenizer.proofs.Steps.{end′}
+use Rattle.tokenizer.proofs.Progress.{each}
+
+rows : Rows
+unfolding step byKind readAs outside taken refusal kindOf mnemonic starEnd numericData numericTo number withExponent mantissa hasWhole wholeEnd fractionEnd exponent beginsExponent suffixData suffixed beginsSuffix inSuffix hashData hashBy arbitraryData indefinite definite payload nondecimalData nondecimalOf followed endsData unsignedAt unsignedOf foundAt digits valueOf isDigitOf digitOf run runEnd signEnd standsAt every isWhiteSpace isCapital isSmall isDigit isLetter inMnemonic isSign isQuote
+rows =
+    record {
+      before-newline = refl;
+      behind-newline = refl;
+      separator = refl;
+      star-and-11 = refl;
+      star-and-12 = refl;
+      flags-as-before = refl;
+      no-newline = refl;
+      five-bytes = refl;
+      four-of-five = refl;
+      exponent-and-suffix = refl;
+      exponent-without-digit = refl;
+      suffix-behind-blank = refl;
+      hexadecimal = refl;
+      suffixed-hexadecimal = refl;
+      too-large = refl;
+    }
+
+-- what tells a refusal from the other answers
+abbrev isRefusal : Answer → Bool
+isRefusal (Token t) = false
+isRefusal (Refused e) = true
+isRefusal End = false
+
+no-refusal : {A : Type 0} {x : Answer} {e : ErrorCode} → isRefusal x ≡ false → x ≡ Refused e → A
+no-refusal f q = absurd (true≢false (sym (ap isRefusal q) ∙ f))
+
+module _ (s : List ℕ) (st : State) where
+  moves : st .place < length s → st .place < (step s st) .state .place
+  unfolding taken refusal ended
+  moves h = each s st (λ (x : Step). st .place < x .state .place) (λ e. h) (λ t next header common k. k) (λ next k. k) h
+
+  rests : length s ≤ st .place → step s st ≡ record { answer = End; state = st }
+  rests h = sym (end′ s st h)
+
+  refusal-state : (e : ErrorCode) → (step s st) .answer ≡ Refused e → (step s st) .state ≡ stateOf (length s) (inHeader st) (inCommon st)
+  unfolding taken refusal ended
+  refusal-state e =
+      ⊎-elim
+      (λ h. each s st P (λ f q. refl) (λ t next header common k q. no-refusal refl q) (λ next k q. no-refusal refl q) h)
+      (λ h q. no-refusal refl (rw (rests h) at q))
+      (less-or-not (st .place) (length s))
+    where
+      P : Step → Type 0
+      P x = x .answer ≡ Refused e → x .state ≡ stateOf (length s) (inHeader st) (inCommon st)
+
+after-refusal : (s : List ℕ) (st : State) (e : ErrorCode) → (step s st) .answer ≡ Refused e → (step s ((step s st) .state)) .answer ≡ End
+after-refusal s st e q = rw (refusal-state s st e q, rests s (stateOf (length s) (inHeader st) (inCommon st)) (omega arith))
+
+-- n steps lead to the end of the text where no more than n bytes are left
+left : (s : List ℕ) (n : ℕ) (st : State) → length s ≤ st .place + n → length s ≤ (after s n st) .place
+left s zero st h = omega (arith, h)
+left s (suc n) st h =
+    left s n ((step s st) .state)
+    (⊎-elim (λ k. omega (arith, h, moves s st k)) (λ k. rw (rests s st k) (omega (arith, k))) (less-or-not (st .place) (length s)))
+
+at-most : (s : List ℕ) (st : State) → (step s (after s (length s) st)) .answer ≡ End
+at-most s st = rw (rests s (after s (length s) st) (left s (length s) st (omega arith)))
+
+pub claims : Claims
+claims = record { moves = moves; rests = rests; refusal-state = refusal-state; after-refusal = after-refusal; at-most = at-most; rows = rows }

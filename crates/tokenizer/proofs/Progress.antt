@@ -1,0 +1,123 @@
+-- Each step inside the text moves the place.
+use Prim.Native.Nat.{ℕ, _+_, _<_}
+use mathlib.Core.Path.{_≡_}
+use mathlib.Core.Logic.{⊎-elim}
+use mathlib.Core.List.{List}
+use mathlib.Core.Bool.{Bool, true, false, not, _&&_, _||_}
+use native.Mathlib.Omega.{arith}
+use lib.Dec.{eqb, ltb}
+use lib.ListN.{length, getD}
+use borrow.Author.Tests.{eqb-true, lt-leb}
+use Rattle.error.specs.declared.ErrorCode.{ErrorCode}
+use Rattle.error.specs.declared.ErrorCode.the-variants.{InvalidCharacter, SyntaxError, InvalidSeparator, CommandHeaderError, HeaderSeparatorError}
+use Rattle.kind.specs.Class.{isWhiteSpace, inMnemonic}
+use Rattle.kind.specs.Kind.{kindOf, newline, blank, star, colon, question, semicolon, comma, hash, quote, parenthesis, other, beyond, underscore, small, capital}
+use Rattle.kind.proofs.Tests.{by-test, either}
+use Rattle.kind.proofs.OfKind.{blank-white, star-is, small-in, capital-in}
+use Rattle.util.specs.Run.{runEnd, standsAt}
+use Rattle.util.proofs.Runs.{run-from}
+use Rattle.token.specs.declared.Token.{Token}
+use Rattle.token.specs.declared.Token.the-variants.{HeaderMnemonicSeparator, HeaderQuerySuffix, ProgramMessageUnitSeparator, ProgramHeaderSeparator, ProgramDataSeparator}
+use Rattle.data.specs.Word.{mnemonic, characterData}
+use Rattle.data.specs.Decimal.{numericData}
+use Rattle.data.specs.String.{stringData}
+use Rattle.data.specs.Block.{hashData}
+use Rattle.data.specs.Expression.{expressionData}
+use Rattle.data.specs.declared.Read.{Read}
+use Rattle.data.specs.declared.Read.the-variants as read
+use Rattle.data.proofs.Progress.{Behind, run-moves, numeric-behind, expression-behind, string-behind, hash-behind, common-behind, header-behind, character-behind}
+use Rattle.tokenizer.specs.Step.{inHeader, inCommon, taken, refusal, ended, readAs, newlineBefore, followsColon, colonBefore, followsQuery, questionBefore, commaTo, commaBefore, wordAt, outside, byKind, step}
+use Rattle.tokenizer.specs.declared.State.{State}
+use Rattle.tokenizer.specs.declared.Step.{Step}
+
+-- What holds of every refusal, of every token and of every end that moves the place, holds of a step inside the text.
+module _ (s : List ℕ) (st : State) (P : Step → Type 0)
+    (refuses : (e : ErrorCode) → P (refusal s st e))
+    (takes : (t : Token) (next : ℕ) (header common : Bool) → st .place < next → P (taken t next header common))
+    (ends : (next : ℕ) → st .place < next → P (ended st next)) where
+  abbrev at : ℕ
+  at = st .place
+
+  reads : (common : Bool) (r : Read) → Behind at r → P (readAs s st common r)
+  unfolding readAs
+  reads common (read.Token t next) h = takes t next (inHeader st) common h
+  reads common (read.Refused e) h = refuses e
+
+  outside-reads : (r : Read) → Behind at r → P (outside s st r)
+  unfolding outside
+  outside-reads r h = by-test P (inHeader st) (λ _. refuses CommandHeaderError) (λ _. reads (inCommon st) r h)
+
+  module _ (next : ℕ) (h : at < next) where
+    newline-moves : P (newlineBefore s st next)
+    unfolding newlineBefore
+    newline-moves = by-test P (ltb next (length s)) (λ _. refuses SyntaxError) (λ _. ends next h)
+
+    colon-moves : P (colonBefore s st next)
+    unfolding colonBefore
+    colon-moves =
+        by-test P (followsColon s next && (inHeader st && not (inCommon st)))
+        (λ _. takes HeaderMnemonicSeparator next (inHeader st) (inCommon st) h)
+        (λ _. refuses InvalidSeparator)
+
+    question-moves : P (questionBefore s st next)
+    unfolding questionBefore
+    question-moves =
+        by-test P (followsQuery s next && inHeader st) (λ _. takes HeaderQuerySuffix next false (inCommon st) h) (λ _. refuses SyntaxError)
+
+    white-moves : at < runEnd isWhiteSpace s next
+    white-moves = omega (arith, h, run-from isWhiteSpace s next)
+
+    comma-moves : P (commaBefore s st next)
+    unfolding commaBefore commaTo
+    comma-moves =
+        by-test P (inHeader st) (λ _. refuses HeaderSeparatorError)
+        (λ _. by-test P (standsAt 44 s to || standsAt 59 s to)
+        (λ _. refuses SyntaxError)
+        (λ _. takes ProgramDataSeparator to (inHeader st) (inCommon st) white-moves))
+      where
+        to : ℕ
+        to = runEnd isWhiteSpace s next
+
+  module _ (h : at < length s) where
+    abbrev b : ℕ
+    b = getD s at 0
+
+    word-moves : inMnemonic b ≡ true → P (wordAt s st at)
+    unfolding wordAt
+    word-moves e =
+        by-test P (inHeader st)
+        (λ _. reads (inCommon st) (mnemonic s at) (header-behind s at h e))
+        (λ _. reads (inCommon st) (characterData s at) (character-behind s at h e))
+
+    by-kind : P (byKind s st at b (kindOf b))
+    unfolding byKind
+    by-kind =
+        by-test P (eqb k newline) (λ _. newline-moves (at + 1) next)
+        (λ _. by-test P (eqb k star) (λ e. reads true (mnemonic s at) (common-behind s at h (eqb-true b 42 (star-is b (eqb-true k star e)))))
+        (λ _. by-test P (eqb k colon) (λ _. colon-moves (at + 1) next)
+        (λ _. by-test P (eqb k question) (λ _. question-moves (at + 1) next)
+        (λ _. by-test P (eqb k semicolon) (λ _. takes ProgramMessageUnitSeparator (runEnd isWhiteSpace s (at + 1)) true false (white-moves (at + 1) next))
+        (λ _. by-test P (eqb k comma) (λ _. comma-moves (at + 1) next)
+        (λ _. by-test P (eqb k blank)
+        (λ e. takes ProgramHeaderSeparator (runEnd isWhiteSpace s at) false (inCommon st) (run-moves isWhiteSpace s at h (blank-white b (eqb-true k blank e))))
+        (λ _. by-test P (eqb k small || eqb k capital) (λ e. word-moves (in-word e))
+        (λ _. by-test P (eqb k parenthesis) (λ _. reads (inCommon st) (expressionData s (at + 1)) (expression-behind s at (at + 1) next))
+        (λ _. by-test P (eqb k other || eqb k underscore) (λ _. refuses SyntaxError)
+        (λ _. by-test P (eqb k beyond) (λ _. refuses InvalidCharacter)
+        (λ _. by-test P (eqb k hash) (λ _. outside-reads (hashData s (at + 1)) (hash-behind s at (at + 1) next))
+        (λ _. by-test P (eqb k quote) (λ _. outside-reads (stringData b s (at + 1)) (string-behind s at (at + 1) next b))
+        (λ _. outside-reads (numericData s at) (numeric-behind s at))))))))))))))
+      where
+        k : ℕ
+        k = kindOf b
+
+        next : at < at + 1
+        next = omega arith
+
+        in-word : (eqb k small || eqb k capital) ≡ true → inMnemonic b ≡ true
+        in-word e =
+            ⊎-elim (λ f. small-in b (eqb-true k small f)) (λ f. capital-in b (eqb-true k capital f)) (either (eqb k small) (eqb k capital) e)
+
+    pub each : P (step s st)
+    unfolding step
+    each = rw (lt-leb (length s) at h) by-kind

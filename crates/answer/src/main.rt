@@ -5,6 +5,8 @@ ghost use Rattle.io.specs.Counts.{Counts};
 use libc::STDIN_FILENO;
 use libc::STDOUT_FILENO;
 use request::Text;
+use tokenizer::Answer;
+use tokenizer::Step;
 
 // The answers that wait in the output buffer: how many bytes they are, and whether every write so far went well.
 struct Sink {
@@ -165,6 +167,8 @@ fn respond(line: &[u8], text: &mut [u8], out: &mut [u8], sink: Sink) -> Sink
     }
     match line[at] {
         b'M' => names(line, at + 1, text, out, sink),
+        b'T' => tokens(line, at + 1, tokenizer::new(), text, out, sink),
+        b'D' => tokens(line, at + 1, tokenizer::new_params(), text, out, sink),
         _ => refuse(out, sink),
     }
 }
@@ -198,6 +202,69 @@ fn name_answer(text: &[u8], n: usize, m: usize) -> [u8; 18]
         util::mnemonic_match(name, word),
         util::mnemonic_compare(name, word),
     )
+}
+
+// T or D, and a text: the tokens of the text, from a state on.
+fn tokens(
+    line: &[u8],
+    at: usize,
+    start: tokenizer::State,
+    text: &mut [u8],
+    out: &mut [u8],
+    sink: Sink,
+) -> Sink
+    requires { ⌜ sink .used ≤ length (now out) ⌝ }
+    ensures { λ r. ⌜ r .used ≤ length (now (out .exit)) ⌝ }
+{
+    let taken = take_text(line, at, text, 0);
+    if !taken.ok {
+        return refuse(out, sink);
+    }
+    if !is_last(line, taken.next) {
+        return refuse(out, sink);
+    }
+    let end = taken.end;
+    put_steps(&text[..end], start, out, sink)
+}
+
+// Adds the part of each step, up to the end of the text or a refusal. A text of n bytes gives at most n tokens or
+// refusals before its end, so n + 1 turns are enough.
+fn put_steps(text: &[u8], start: tokenizer::State, out: &mut [u8], sink: Sink) -> Sink
+    requires { ⌜ sink .used ≤ length (now out) ⌝ }
+    ensures { λ r. ⌜ r .used ≤ length (now (out .exit)) ⌝ }
+{
+    let mut state = start;
+    let mut last = sink;
+    let mut turn = 0;
+    while turn <= text.len() {
+        let step = tokenizer::next(text, state);
+        last = put_step(step, out, last);
+        if !is_token(step) {
+            return last;
+        }
+        state = step.state;
+        turn += 1;
+    }
+    last
+}
+
+// Adds the part of a step.
+fn put_step(step: Step, out: &mut [u8], sink: Sink) -> Sink
+    requires { ⌜ sink .used ≤ length (now out) ⌝ }
+    ensures { λ r. ⌜ r .used ≤ length (now (out .exit)) ⌝ }
+{
+    let mut part = [0u8; 128];
+    let n = report::token_part(step, &mut part);
+    put(out, sink, &part[..n])
+}
+
+// Whether a step gave a token.
+fn is_token(step: Step) -> bool {
+    let answer = step.answer;
+    if let Answer::Token(_) = answer {
+        return true;
+    }
+    false
 }
 
 // Whether a text was taken from a line; the place behind its field in the line, and the place behind its bytes
@@ -250,8 +317,8 @@ fn refuse(out: &mut [u8], sink: Sink) -> Sink
     put(out, sink, b"request?\n")
 }
 
-// Adds an answer to those that wait, which are written out first where it has no room. Once a write has
-// failed nothing more is written.
+// Adds an answer, or a part of one, to what waits, which is written out first where there is no room. Once a
+// write has failed nothing more is written.
 fn put(out: &mut [u8], sink: Sink, answer: &[u8]) -> Sink
     requires { ⌜ sink .used ≤ length (now out) ⌝ }
     ensures { λ r. ⌜ r .used ≤ length (now (out .exit)) ⌝ }

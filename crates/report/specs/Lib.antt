@@ -1,1 +1,5 @@
+pub mod Added
+pub mod Claims
 pub mod Line
+pub mod Number
+pub mod Tokens

@@ -1,6 +1,10 @@
 // The answers as lines of text.
+mod tokens;
+mod write;
+
 ghost use mathlib.Core.Path.{_≡_};
 ghost use Rattle.report.specs.Line.{flag, namesText};
+pub use tokens::token_part;
 
 // The answer to a name and a word: the line `match A compare B`.
 pub fn names(matched: bool, compared: bool) -> [u8; 18]

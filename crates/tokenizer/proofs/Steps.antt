@@ -18,7 +18,7 @@ use Rattle.data.specs.Decimal.{numericData}
 use Rattle.data.specs.String.{stringData}
 use Rattle.data.specs.Block.{hashData}
 use Rattle.data.specs.Expression.{expressionData}
-use Rattle.tokenizer.specs.Step.{stateOf, inHeader, inCommon, taken, refusal, ended, readAs, newlineBefore, followsColon, colonBefore, followsQuery, questionBefore, commaTo, commaBefore, wordAt, outside, byKind, step}
+use Rattle.tokenizer.specs.Step.{stateOf, inHeader, inCommon, ofMessage, ofData, taken, refusal, ended, readAs, newlineBefore, followsColon, colonBefore, followsQuery, questionBefore, commaTo, commaBefore, wordAt, outside, byKind, step}
 use Rattle.data.specs.declared.Read.{Read}
 use Rattle.data.specs.declared.Read.the-variants as read
 use Rattle.tokenizer.specs.declared.State.{State}
@@ -230,3 +230,12 @@ module _ (s : List ℕ) (st : State) where
         ∙ rw (ne-eqb k 0 n0, ne-eqb k 2 n2, ne-eqb k 3 n3, ne-eqb k 4 n4, ne-eqb k 5 n5, ne-eqb k 6 n6, ne-eqb k 1 n1, ne-eqb k 16 n16, ne-eqb k 17 n17, ne-eqb k 11 n11, ne-eqb k 12 n12, ne-eqb k 14 n14, ne-eqb k 13 n13, ne-eqb k 9 n9, ne-eqb k 10 n10))
 
 pub ruleset steps = (needs, end′, newline′, blank′, star′, colon′, question′, semicolon′, comma′, small′, capital′, parenthesis′, other′, underscore′, beyond′, hash′, quote′, number′)
+
+-- data alone starts as a message does, but outside a header
+pub data-start′ : (st : State) → st ≡ ofMessage → stateOf (st .place) false (inCommon st) ≡ ofData
+data-start′ st e = rw e
+
+pub data-step′ : (s : List ℕ) (place : ℕ) (st : State) → st ≡ ofData → (x : Step) → x ≡ step s (stateOf place (inHeader st) (inCommon st)) → x ≡ step s (stateOf place false false)
+data-step′ s place st e x ex = ex ∙ rw e
+
+pub ruleset starts = (needs, data-start′, data-step′)

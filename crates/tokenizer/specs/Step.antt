@@ -25,13 +25,13 @@ use Rattle.tokenizer.specs.declared.Step.{Step}
 
 -- a place, whether it is in a header, and whether in that of a common command
 abbrev pub stateOf : ℕ → Bool → Bool → State
-stateOf place header common = record { place = place; «in_header» = header; «in_common» = common }
+stateOf place header common = record { place = place; in_header = header; in_common = common }
 
 abbrev pub inHeader : State → Bool
-inHeader st = st .«in_header»
+inHeader st = st .in_header
 
 abbrev pub inCommon : State → Bool
-inCommon st = st .«in_common»
+inCommon st = st .in_common
 
 -- the front of a message, and the front of data alone
 abbrev pub ofMessage : State

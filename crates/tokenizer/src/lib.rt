@@ -44,11 +44,9 @@ pub fn new() -> State
 pub fn new_params() -> State
     ensures { λ r. ⌜ r ≡ ofData ⌝ }
 {
-    State {
-        place: 0,
-        in_header: false,
-        in_common: false,
-    }
+    let mut state = new();
+    state.in_header = false;
+    state
 }
 
 // The next token of a text.
@@ -94,14 +92,9 @@ pub fn next(s: &[u8], state: State) -> Step
 pub fn next_params(s: &[u8], place: usize) -> Step
     ensures { λ r. ⌜ r ≡ step (now (s .entry)) (stateOf place false false) ⌝ }
 {
-    next(
-        s,
-        State {
-            place,
-            in_header: false,
-            in_common: false,
-        },
-    )
+    let mut state = new_params();
+    state.place = place;
+    next(s, state)
 }
 
 // A newline before a place ends the message where it is the last byte.

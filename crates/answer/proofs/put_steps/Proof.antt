@@ -1,0 +1,63 @@
+use Prim.Native.Nat.{_+_, _-_, _≤_}
+use mathlib.Core.Path.{_≡_}
+use lib.ListN.{length}
+use Rattle.answer.proofs.Laws.{laws}
+use Rattle.answer.proofs.put_steps.Statement.{statement}
+use Rattle.answer.proofs.put_steps.Tie as tie
+
+abbrev Inv-loop : tie.InvT-loop
+Inv-loop text out₀ state₀ last₀ turn₀ out state last turn = (last .used ≤ length out) × (length out ≡ length out₀)
+
+abbrev μ-loop : tie.MeasureT-loop
+μ-loop text out₀ state₀ last₀ turn₀ out state last turn = length text + 1 - turn
+
+loop-holds : tie.Need-loop-holds Inv-loop μ-loop
+loop-holds c = search laws
+
+next-requires : tie.Need-next-requires Inv-loop μ-loop
+next-requires c κs = search laws
+
+put-step-requires : tie.Need-put-step-requires Inv-loop μ-loop
+put-step-requires c κs = search laws
+
+is-token-requires : tie.Need-is-token-requires Inv-loop μ-loop
+is-token-requires c κs = search laws
+
+same-length : tie.Need-same-length Inv-loop μ-loop
+same-length c = search laws
+
+returns : tie.Need-returns Inv-loop μ-loop
+returns c = search laws
+
+add-turn : tie.Need-add-turn Inv-loop μ-loop
+add-turn c = search laws
+
+loop-less : tie.Need-loop-less Inv-loop μ-loop
+loop-less c = search laws
+
+loop-again : tie.Need-loop-again Inv-loop μ-loop
+loop-again c = search laws
+
+same-length-2 : tie.Need-same-length-2 Inv-loop μ-loop
+same-length-2 c = search laws
+
+returns-2 : tie.Need-returns-2 Inv-loop μ-loop
+returns-2 c = search laws
+
+pub put-steps-spec : {M : Type 1} → statement M
+put-steps-spec =
+    tie.close
+    (tie.spec
+    Inv-loop
+    μ-loop
+    loop-holds
+    next-requires
+    put-step-requires
+    is-token-requires
+    same-length
+    returns
+    add-turn
+    loop-less
+    loop-again
+    same-length-2
+    returns-2)

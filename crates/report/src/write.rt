@@ -1,0 +1,52 @@
+// Texts written to a line, each behind the one before it.
+ghost use mathlib.Core.Path.{_≡_};
+ghost use Prim.Native.Nat.{_+_, _≤_};
+ghost use lib.IntN.{natAbs};
+ghost use lib.ListN.{length};
+ghost use Rattle.report.specs.Added.{Added};
+ghost use Rattle.report.specs.Number.{decimal, signed};
+
+// Writes a text to a line at a place, and answers the place behind it.
+pub(crate) fn add(line: &mut [u8], at: usize, text: &[u8]) -> usize
+    requires { ⌜ at + length (now text) ≤ length (now line) ⌝ }
+    ensures { λ r. ⌜ (Added (now (line .entry)) at (now (text .entry)) (now (line .exit)) r) × (r ≡ at + length (now (text .entry))) ⌝ }
+{
+    let mut i = 0;
+    while i < text.len() {
+        line[at + i] = text[i];
+        i += 1;
+    }
+    at + i
+}
+
+// A number in decimal, of 20 digits at most.
+pub(crate) fn add_number(line: &mut [u8], at: usize, n: u64) -> usize
+    requires { ⌜ at + 20 ≤ length (now line) ⌝ }
+    ensures { λ r. ⌜ (Added (now (line .entry)) at (decimal n) (now (line .exit)) r) × (r ≤ at + 20) ⌝ }
+{
+    let mut digits = [0u8; 20];
+    let count = io::decimal(n, &mut digits);
+    add(line, at, &digits[..count])
+}
+
+// A number in decimal, with a minus in front where it is below zero.
+pub(crate) fn add_signed(line: &mut [u8], at: usize, n: i16) -> usize
+    requires { ⌜ at + 21 ≤ length (now line) ⌝ }
+    ensures { λ r. ⌜ (Added (now (line .entry)) at (signed n) (now (line .exit)) r) × (r ≤ at + 21) ⌝ }
+{
+    if n < 0 {
+        let shown = add(line, at, b"-");
+        return add_number(line, shown, without_sign(n));
+    }
+    add_number(line, at, without_sign(n))
+}
+
+// A number without its sign.
+fn without_sign(n: i16) -> u64
+    ensures { λ r. ⌜ r ≡ natAbs n ⌝ }
+{
+    if n < 0 {
+        return (0 - (n as i64)) as u64;
+    }
+    n as u64
+}

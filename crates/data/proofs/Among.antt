@@ -3,15 +3,17 @@ use Prim.Native.Nat.{ℕ, zero, suc, _+_, _-_, _≤_, _<_}
 use mathlib.Core.Path.{_≡_, refl, sym, ap, _∙_}
 use mathlib.Core.List.{List, [], _∷_}
 use mathlib.Core.Bool.{Bool, true, false, cond, not}
+use mathlib.Core.Logic.{_⊎_, inl, inr, ⊎-elim}
 use native.Mathlib.Nat.{le-refl}
 use native.Mathlib.Omega.{arith}
 use native.Mathlib.Numerals.{add-one}
 use lib.ListN.{length, getD, take, drop, drop-of-length-le}
 use lib.Seq.{drop-cons}
 use borrow.Author.Needs.{needs}
-use borrow.Author.Tests.{not-true, not-false}
+use borrow.Author.Tests.{not-true, not-false, lt-ltb, le-ltb}
+use Rattle.kind.proofs.Tests.{less-or-not}
 use Rattle.util.specs.Run.{run, runEnd}
-use Rattle.data.specs.Follow.{runEndAmong}
+use Rattle.data.specs.Follow.{nearEnd, runEndAmong}
 
 module _ (p : ℕ → Bool) where
   take-none : (t : List ℕ) → run p (take 0 t) ≡ 0
@@ -65,13 +67,13 @@ module _ (n : ℕ) (p : ℕ → Bool) (s : List ℕ) (at : ℕ) where
   begins′ = let e : n - (at - at) ≡ n = omega arith in rw e
 
   module _ (i : ℕ) (inv : runEndAmong n p s at ≡ runEndAmong (n - (i - at)) p s i) where
-    pub full′ : n ≤ i - at → i ≡ runEndAmong n p s at
+    full′ : n ≤ i - at → i ≡ runEndAmong n p s at
     unfolding runEndAmong
     full′ h =
         let e : n - (i - at) ≡ 0 = omega arith in
         sym (inv ∙ rw e (omega (arith, take-none p (drop i s))))
 
-    pub past′ : length s ≤ i → i ≡ runEndAmong n p s at
+    past′ : length s ≤ i → i ≡ runEndAmong n p s at
     unfolding runEndAmong
     past′ h = sym (inv ∙ rw (drop-of-length-le s h) (omega (arith, take-past p (n - (i - at)))))
 
@@ -88,4 +90,37 @@ module _ (n : ℕ) (p : ℕ → Bool) (s : List ℕ) (at : ℕ) where
           let e : n - (i - at) ≡ suc (n - (j - at)) = omega arith in
           inv ∙ rw (e, drop-cons s i 0 l, ← er, not-false r q, ej, add-one) (omega arith)
 
-pub ruleset laws = (needs, begins′, full′, past′, stop′, more′)
+-- the place that a loop over 13 characters stops before
+module _ (s : List ℕ) (at : ℕ) where
+  pub near-past′ : length s ≤ at → length s ≡ nearEnd s at
+  unfolding nearEnd
+  near-past′ h = rw (lt-ltb (length s - at) 13 (omega arith))
+
+  pub near-text′ : length s - at < 13 → length s ≡ nearEnd s at
+  unfolding nearEnd
+  near-text′ h = rw (lt-ltb (length s - at) 13 h)
+
+  pub near-on′ : 13 ≤ length s - at → at + 13 ≡ nearEnd s at
+  unfolding nearEnd
+  near-on′ h = rw (le-ltb (length s - at) 13 h)
+
+  module _ (limit : ℕ) (e : limit ≡ nearEnd s at) (i : ℕ) where
+    near : ((limit ≡ length s) × (length s - at < 13)) ⊎ ((limit ≡ at + 13) × (13 ≤ length s - at))
+    near = ⊎-elim (λ k. inl (e ∙ sym (near-text′ k), k)) (λ k. inr (e ∙ sym (near-on′ k), k)) (less-or-not (length s - at) 13)
+
+    pub near-inside′ : i < limit → i < length s
+    near-inside′ h = ⊎-elim (λ q. omega (arith, h, q .0)) (λ q. omega (arith, h, q .0, q .1)) near
+
+    pub near-short′ : at ≤ i → i < limit → i - at < 13
+    near-short′ k h = ⊎-elim (λ q. omega (arith, h, k, q .0, q .1)) (λ q. omega (arith, h, k, q .0)) near
+
+    pub near-through′ : (p : ℕ → Bool) → runEndAmong 13 p s at ≡ runEndAmong (13 - (i - at)) p s i → at ≤ i → limit ≤ i → i ≡ runEndAmong 13 p s at
+    near-through′ p inv k h =
+        ⊎-elim
+        (λ q. past′ 13 p s at i inv (omega (arith, h, q .0)))
+        (λ q. full′ 13 p s at i inv (omega (arith, h, k, q .0)))
+        near
+
+pub ruleset laws = (needs, begins′, stop′, more′, near-inside′, near-short′, near-through′)
+
+pub ruleset limits = (needs, near-past′, near-text′, near-on′)

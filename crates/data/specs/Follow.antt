@@ -1,8 +1,8 @@
 -- What may follow an item of program data.
-use Prim.Native.Nat.{ℕ, _+_}
+use Prim.Native.Nat.{ℕ, _+_, _-_}
 use mathlib.Core.List.{List}
 use mathlib.Core.Bool.{Bool, cond, _||_}
-use lib.Dec.{leb}
+use lib.Dec.{leb, ltb}
 use lib.ListN.{length, getD, take, drop}
 use Rattle.error.specs.declared.ErrorCode.{ErrorCode}
 use Rattle.kind.specs.Class.{is, isWhiteSpace}
@@ -29,3 +29,7 @@ followed t e s end = cond (endsData s (runEnd isWhiteSpace s end)) (token t (run
 -- how far the class p goes among the next n characters
 unfoldable pub runEndAmong : ℕ → (ℕ → Bool) → List ℕ → ℕ → ℕ
 runEndAmong n p s at = at + run p (take n (drop at s))
+
+-- the place 13 characters on, or the end of the text where that comes first
+unfoldable pub nearEnd : List ℕ → ℕ → ℕ
+nearEnd s at = cond (ltb (length s - at) 13) (length s) (at + 13)

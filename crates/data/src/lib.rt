@@ -3,7 +3,7 @@ ghost use Prim.Native.Nat.{_<_};
 ghost use mathlib.Core.Path.{_≡_};
 ghost use Rattle.kind.specs.Class.{inMnemonic};
 ghost use Rattle.util.specs.Run.{runEnd};
-ghost use Rattle.data.specs.Follow.{endsData, followed, runEndAmong};
+ghost use Rattle.data.specs.Follow.{endsData, followed, nearEnd, runEndAmong};
 ghost use Rattle.data.specs.Word.{starEnd, mnemonic, characterData};
 ghost use Rattle.data.specs.Decimal.{fractionEnd, mantissa, beginsExponent, exponent, number, nrf, inSuffix, beginsSuffix, suffixData, numericData};
 ghost use Rattle.data.specs.Nondecimal.{nondecimalData};
@@ -300,11 +300,9 @@ fn star_end(s: &[u8], at: usize) -> usize
 fn mnemonic_end(s: &[u8], at: usize) -> usize
     ensures { λ r. ⌜ r ≡ runEndAmong 13 inMnemonic (now (s .entry)) at ⌝ }
 {
+    let limit = near_end(s, at);
     let mut end = at;
-    while end < s.len() {
-        if 13 <= end - at {
-            return end;
-        }
+    while end < limit {
         if !kind::in_mnemonic(s[end]) {
             return end;
         }
@@ -317,17 +315,28 @@ fn mnemonic_end(s: &[u8], at: usize) -> usize
 fn suffix_end(s: &[u8], at: usize) -> usize
     ensures { λ r. ⌜ r ≡ runEndAmong 13 inSuffix (now (s .entry)) at ⌝ }
 {
+    let limit = near_end(s, at);
     let mut end = at;
-    while end < s.len() {
-        if 13 <= end - at {
-            return end;
-        }
+    while end < limit {
         if !in_suffix(s[end]) {
             return end;
         }
         end += 1;
     }
     end
+}
+
+// The place 13 bytes on, or the end of the text where that comes first.
+fn near_end(s: &[u8], at: usize) -> usize
+    ensures { λ r. ⌜ r ≡ nearEnd (now (s .entry)) at ⌝ }
+{
+    if s.len() <= at {
+        return s.len();
+    }
+    if s.len() - at < 13 {
+        return s.len();
+    }
+    at + 13
 }
 
 // What may stand in a suffix.

@@ -1,6 +1,5 @@
 use Prim.Native.Nat.{_-_, _≤_}
 use mathlib.Core.Path.{_≡_}
-use lib.ListN.{length}
 use Rattle.kind.specs.Class.{inMnemonic}
 use Rattle.data.specs.Follow.{runEndAmong}
 use Rattle.data.proofs.Among.{laws}
@@ -8,19 +7,16 @@ use Rattle.data.proofs.mnemonic_end.Statement.{statement}
 use Rattle.data.proofs.mnemonic_end.Tie as tie
 
 abbrev Inv-loop : tie.InvT-loop
-Inv-loop s at end₀ end = (at ≤ end) × (runEndAmong 13 inMnemonic s at ≡ runEndAmong (13 - (end - at)) inMnemonic s end)
+Inv-loop s at limit end₀ end = (at ≤ end) × (runEndAmong 13 inMnemonic s at ≡ runEndAmong (13 - (end - at)) inMnemonic s end)
 
 abbrev μ-loop : tie.MeasureT-loop
-μ-loop s at end₀ end = length s - end
+μ-loop s at limit end₀ end = limit - end
+
+near-end-requires : tie.Need-near-end-requires Inv-loop μ-loop
+near-end-requires c κs = search laws
 
 loop-holds : tie.Need-loop-holds Inv-loop μ-loop
 loop-holds c = search laws
-
-sub-if1 : tie.Need-sub-if1 Inv-loop μ-loop
-sub-if1 c = search laws
-
-returns : tie.Need-returns Inv-loop μ-loop
-returns c = search laws
 
 shared-slice-read-in-mnemonic : tie.Need-shared-slice-read-in-mnemonic Inv-loop μ-loop
 shared-slice-read-in-mnemonic c = search laws
@@ -28,8 +24,8 @@ shared-slice-read-in-mnemonic c = search laws
 in-mnemonic-requires : tie.Need-in-mnemonic-requires Inv-loop μ-loop
 in-mnemonic-requires c κs = search laws
 
-returns-2 : tie.Need-returns-2 Inv-loop μ-loop
-returns-2 c = search laws
+returns : tie.Need-returns Inv-loop μ-loop
+returns c = search laws
 
 add-end : tie.Need-add-end Inv-loop μ-loop
 add-end c = search laws
@@ -40,8 +36,8 @@ loop-less c = search laws
 loop-again : tie.Need-loop-again Inv-loop μ-loop
 loop-again c = search laws
 
-returns-3 : tie.Need-returns-3 Inv-loop μ-loop
-returns-3 c = search laws
+returns-2 : tie.Need-returns-2 Inv-loop μ-loop
+returns-2 c = search laws
 
 pub mnemonic-end-spec : {M : Type 1} → statement M
 mnemonic-end-spec =
@@ -49,13 +45,12 @@ mnemonic-end-spec =
     (tie.spec
     Inv-loop
     μ-loop
+    near-end-requires
     loop-holds
-    sub-if1
-    returns
     shared-slice-read-in-mnemonic
     in-mnemonic-requires
-    returns-2
+    returns
     add-end
     loop-less
     loop-again
-    returns-3)
+    returns-2)

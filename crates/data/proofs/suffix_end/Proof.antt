@@ -1,6 +1,5 @@
 use Prim.Native.Nat.{_-_, _≤_}
 use mathlib.Core.Path.{_≡_}
-use lib.ListN.{length}
 use Rattle.data.specs.Decimal.{inSuffix}
 use Rattle.data.specs.Follow.{runEndAmong}
 use Rattle.data.proofs.Among.{laws}
@@ -8,19 +7,16 @@ use Rattle.data.proofs.suffix_end.Statement.{statement}
 use Rattle.data.proofs.suffix_end.Tie as tie
 
 abbrev Inv-loop : tie.InvT-loop
-Inv-loop s at end₀ end = (at ≤ end) × (runEndAmong 13 inSuffix s at ≡ runEndAmong (13 - (end - at)) inSuffix s end)
+Inv-loop s at limit end₀ end = (at ≤ end) × (runEndAmong 13 inSuffix s at ≡ runEndAmong (13 - (end - at)) inSuffix s end)
 
 abbrev μ-loop : tie.MeasureT-loop
-μ-loop s at end₀ end = length s - end
+μ-loop s at limit end₀ end = limit - end
+
+near-end-requires : tie.Need-near-end-requires Inv-loop μ-loop
+near-end-requires c κs = search laws
 
 loop-holds : tie.Need-loop-holds Inv-loop μ-loop
 loop-holds c = search laws
-
-sub-if1 : tie.Need-sub-if1 Inv-loop μ-loop
-sub-if1 c = search laws
-
-returns : tie.Need-returns Inv-loop μ-loop
-returns c = search laws
 
 shared-slice-read-in-suffix : tie.Need-shared-slice-read-in-suffix Inv-loop μ-loop
 shared-slice-read-in-suffix c = search laws
@@ -28,8 +24,8 @@ shared-slice-read-in-suffix c = search laws
 in-suffix-requires : tie.Need-in-suffix-requires Inv-loop μ-loop
 in-suffix-requires c κs = search laws
 
-returns-2 : tie.Need-returns-2 Inv-loop μ-loop
-returns-2 c = search laws
+returns : tie.Need-returns Inv-loop μ-loop
+returns c = search laws
 
 add-end : tie.Need-add-end Inv-loop μ-loop
 add-end c = search laws
@@ -40,8 +36,8 @@ loop-less c = search laws
 loop-again : tie.Need-loop-again Inv-loop μ-loop
 loop-again c = search laws
 
-returns-3 : tie.Need-returns-3 Inv-loop μ-loop
-returns-3 c = search laws
+returns-2 : tie.Need-returns-2 Inv-loop μ-loop
+returns-2 c = search laws
 
 pub suffix-end-spec : {M : Type 1} → statement M
 suffix-end-spec =
@@ -49,13 +45,12 @@ suffix-end-spec =
     (tie.spec
     Inv-loop
     μ-loop
+    near-end-requires
     loop-holds
-    sub-if1
-    returns
     shared-slice-read-in-suffix
     in-suffix-requires
-    returns-2
+    returns
     add-end
     loop-less
     loop-again
-    returns-3)
+    returns-2)

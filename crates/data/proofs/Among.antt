@@ -13,7 +13,7 @@ use borrow.Author.Needs.{needs}
 use borrow.Author.Tests.{not-true, not-false, lt-ltb, le-ltb}
 use Rattle.kind.proofs.Tests.{less-or-not}
 use Rattle.util.specs.Run.{run, runEnd}
-use Rattle.data.specs.Follow.{nearEnd, runEndAmong}
+use Rattle.data.specs.Near.{nearEnd, runEndAmong}
 
 module _ (p : ℕ → Bool) where
   take-none : (t : List ℕ) → run p (take 0 t) ≡ 0

@@ -15,7 +15,8 @@ use Rattle.util.proofs.Runs.{run-again, run-from}
 use Rattle.token.specs.View.{viewOf}
 use Rattle.token.specs.declared.View.{View}
 use Rattle.token.specs.declared.Token.the-variants.{DecimalNumericProgramData, DecimalNumericSuffixProgramData}
-use Rattle.data.specs.Follow.{token, refused, followed, runEndAmong}
+use Rattle.data.specs.Follow.{token, refused, followed}
+use Rattle.data.specs.Near.{runEndAmong}
 use Rattle.data.specs.Decimal.{wholeEnd, hasWhole, fractionEnd, hasFraction, mantissa, beginsExponent, exponent, withExponent, number, numberTo, nrf, inSuffix, beginsSuffix, suffixed, suffixData, numericTo, numericData}
 use Rattle.data.specs.declared.Place.{Place}
 use Rattle.data.specs.declared.Place.the-variants.{At, Nowhere}

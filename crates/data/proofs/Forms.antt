@@ -8,7 +8,7 @@ use native.Mathlib.Omega.{arith}
 use lib.Dec.{eqb, leb, ltb}
 use lib.ListN.{length, getD, take, drop, length-append}
 use lib.Seq.{take-append-seam}
-use borrow.Author.Tests.{eq-eqb, eqb-true, leb-true, le-leb, lt-leb, ltb-true, lt-ltb, leb-false}
+use borrow.Author.Tests.{eq-eqb, eqb-true, leb-true, le-leb, lt-leb, ltb-true, lt-ltb, leb-false, eqb-false}
 use Rattle.error.specs.declared.ErrorCode.the-variants.{SuffixNotAllowed, InvalidCharacter, InvalidStringData, InvalidBlockData, InvalidExpression}
 use Rattle.kind.specs.Class.{isDigit, isQuote, isAscii}
 use Rattle.kind.proofs.Tests.{either, and-left, and-right}
@@ -20,7 +20,7 @@ use Rattle.token.specs.declared.View.{View}
 use Rattle.token.specs.declared.Token.the-variants.{StringProgramData, ArbitraryBlockData, ExpressionProgramData}
 use Rattle.data.specs.Follow.{token, refused, followed}
 use Rattle.data.specs.String.{inString, stringEnd, closed, stringData}
-use Rattle.data.specs.Block.{payload, definite}
+use Rattle.data.specs.Block.{payload, definite, indefinite, arbitraryData}
 use Rattle.data.specs.Expression.{inExpression, bracketed, expressionData}
 use Rattle.data.specs.Form.{Follows, StringBody, StringForm, BlockForm, ExpressionForm}
 use Rattle.data.specs.Form.StringBody.{empty, plain, doubled}
@@ -115,9 +115,9 @@ module _ (q : ℕ) where
         (well-followed (StringProgramData (viewOf at (at + length t))) SuffixNotAllowed s (at + length t + 1) after (here-next s (at + length t) (q ∷ []) after n) f)
 
 module _ (s : List ℕ) (at : ℕ) where
-  pub block-form : (n : ℕ) (v : View) (next : ℕ) → definite s at n ≡ token (ArbitraryBlockData v) next → BlockForm n s at v
+  definite-form : (n : ℕ) (v : View) (next : ℕ) → definite s at n ≡ token (ArbitraryBlockData v) next → BlockForm n s at v
   unfolding definite payload
-  block-form n v next h =
+  definite-form n v next h =
       let m : ℕ = valueOf 10 (take n (drop at s)) in
       let c = only-then (ArbitraryBlockData v) next (leb (at + n) (length s) && every isDigit (take n (drop at s))) (payload s (at + n) m) InvalidBlockData h in
       let d = only-then (ArbitraryBlockData v) next (leb (at + n + m) (length s)) (followed (ArbitraryBlockData (viewOf (at + n) (at + n + m))) SuffixNotAllowed s (at + n + m)) InvalidBlockData (c .1) in
@@ -129,10 +129,10 @@ module _ (s : List ℕ) (at : ℕ) where
         inside = rw (← e) (leb-true (at + n + m) (length s) (d .0));
       }
 
-  pub block-read : (ds t after : List ℕ) → drop at s ≡ ds ++ (t ++ after) → 0 < length ds → every isDigit ds ≡ true → valueOf 10 ds ≡ length t → (f : Follows after)
+  definite-read : (ds t after : List ℕ) → drop at s ≡ ds ++ (t ++ after) → 0 < length ds → every isDigit ds ≡ true → valueOf 10 ds ≡ length t → (f : Follows after)
       → definite s at (length ds) ≡ token (ArbitraryBlockData (viewOf (at + length ds) (at + length ds + length t))) (at + length ds + length t + length (f .white))
   unfolding definite payload
-  block-read ds t after h p a m f =
+  definite-read ds t after h p a m f =
       let l : length s - at ≡ length ds + (length t + length after) = here-length s at (ds ++ (t ++ after)) h ∙ length-append ds (t ++ after) ∙ ap (λ (k : ℕ). length ds + k) (length-append t after) in
       let w : take (length ds) (drop at s) ≡ ds = rw h (take-append-seam ds (t ++ after)) in
       let n : drop (at + length ds) s ≡ t ++ after = here-next s at ds (t ++ after) h in
@@ -140,3 +140,21 @@ module _ (s : List ℕ) (at : ℕ) where
       let j : at + length ds + length t ≤ length s = omega (arith, l, p) in
       rw (w, le-leb (at + length ds) (length s) i, a, m, le-leb (at + length ds + length t) (length s) j)
       (well-followed (ArbitraryBlockData (viewOf (at + length ds) (at + length ds + length t))) SuffixNotAllowed s (at + length ds + length t) after (here-next s (at + length ds) t after n) f)
+
+module _ (b : ℕ) (s : List ℕ) (at : ℕ) where
+  pub block-form : (v : View) (next : ℕ) → eqb b 48 ≡ false → arbitraryData b s at ≡ token (ArbitraryBlockData v) next → BlockForm (b - 48) s at v
+  unfolding arbitraryData
+  block-form v next z h =
+      definite-form s at (b - 48) v next
+      (rw z at (only-then (ArbitraryBlockData v) next (isDigit b) (cond (eqb b 48) (indefinite s at) (definite s at (b - 48))) InvalidBlockData h .1))
+
+  -- a digit that is no 0 says one digit at least
+  some : isDigit b ≡ true → eqb b 48 ≡ false → 0 < b - 48
+  unfolding isDigit
+  some d z = omega (arith, leb-true 48 b (and-left (leb 48 b) (leb b 57) d), eqb-false b 48 z)
+
+  pub block-read : (ds t after : List ℕ) → isDigit b ≡ true → eqb b 48 ≡ false → length ds ≡ b - 48 → drop at s ≡ ds ++ (t ++ after) → every isDigit ds ≡ true
+      → valueOf 10 ds ≡ length t → (f : Follows after)
+      → arbitraryData b s at ≡ token (ArbitraryBlockData (viewOf (at + length ds) (at + length ds + length t))) (at + length ds + length t + length (f .white))
+  unfolding arbitraryData
+  block-read ds t after d z e h a m f = rw (d, z, ← e) (definite-read s at ds t after h (omega (arith, e, some d z)) a m f)

@@ -12,7 +12,8 @@ use Rattle.kind.specs.Class.{inMnemonic}
 use Rattle.util.specs.Run.{runEnd, standsAt}
 use Rattle.token.specs.View.{viewOf}
 use Rattle.token.specs.declared.Token.the-variants.{ProgramMnemonic, CharacterProgramData}
-use Rattle.data.specs.Follow.{token, refused, followed, runEndAmong}
+use Rattle.data.specs.Follow.{token, refused, followed}
+use Rattle.data.specs.Near.{runEndAmong}
 use Rattle.data.specs.Word.{starEnd, mnemonic, characterData}
 use Rattle.data.specs.declared.Read.{Read}
 use Rattle.data.proofs.Among.{among-from, among-under, among-whole}

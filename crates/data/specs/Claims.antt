@@ -1,12 +1,12 @@
 -- What is proved of these definitions, besides the promises of the functions: what is accepted has the form of the grammar, and
 -- what has the form is accepted, with exactly that view. The proofs are in proofs/Claims.
-use Prim.Native.Nat.{ℕ, _+_, _<_}
+use Prim.Native.Nat.{ℕ, _+_, _-_}
 use Prim.Native.Char.{code}
 use mathlib.Core.Path.{_≡_}
 use mathlib.Core.List.{List, _∷_, _++_}
-use mathlib.Core.Bool.{true}
+use mathlib.Core.Bool.{true, false}
 use lib.ListN.{length, drop}
-use Rattle.kind.specs.Class.{isDigit, isQuote}
+use Rattle.kind.specs.Class.{is, isDigit, isQuote}
 use Rattle.util.specs.Run.{every}
 use Rattle.number.specs.Digit.{valueOf}
 use Rattle.token.specs.View.{viewOf, partOf}
@@ -15,7 +15,7 @@ use Rattle.token.specs.declared.Token.the-variants.{DecimalNumericProgramData, 
 use Rattle.data.specs.Follow.{token}
 use Rattle.data.specs.Decimal.{numericData}
 use Rattle.data.specs.String.{stringData}
-use Rattle.data.specs.Block.{definite}
+use Rattle.data.specs.Block.{arbitraryData}
 use Rattle.data.specs.Expression.{inExpression, expressionData}
 use Rattle.data.specs.Form.{Follows, Number, Suffix, StringBody, StringForm, BlockForm, ExpressionForm}
 
@@ -33,11 +33,13 @@ pub record Claims : Type 0 where
   -- a string's body, its quote, and what may follow it, is accepted with that view
   pub string-read : (q : ℕ) (s : List ℕ) (at : ℕ) (t after : List ℕ) → isQuote q ≡ true → drop at s ≡ t ++ q ∷ after → StringBody q t → (f : Follows after)
       → stringData q s at ≡ token (StringProgramData (viewOf at (at + length t))) (at + length t + 1 + length (f .white))
-  -- a definite block that was accepted has the form
-  pub block-form : (s : List ℕ) (at n : ℕ) (v : View) (next : ℕ) → definite s at n ≡ token (ArbitraryBlockData v) next → BlockForm n s at v
-  -- digits that say how long the bytes behind them are, and what may follow these, are accepted with that view
-  pub block-read : (s : List ℕ) (at : ℕ) (ds t after : List ℕ) → drop at s ≡ ds ++ (t ++ after) → 0 < length ds → every isDigit ds ≡ true → valueOf 10 ds ≡ length t → (f : Follows after)
-      → definite s at (length ds) ≡ token (ArbitraryBlockData (viewOf (at + length ds) (at + length ds + length t))) (at + length ds + length t + length (f .white))
+  -- a definite block, whose format is a digit but 0, that was accepted has the form
+  pub block-form : (b : ℕ) (s : List ℕ) (at : ℕ) (v : View) (next : ℕ) → is "0" b ≡ false → arbitraryData b s at ≡ token (ArbitraryBlockData v) next
+      → BlockForm (b - code "0") s at v
+  -- as many digits as the format says, that say how long the bytes behind them are, and what may follow these, are accepted with that view
+  pub block-read : (b : ℕ) (s : List ℕ) (at : ℕ) (ds t after : List ℕ) → isDigit b ≡ true → is "0" b ≡ false → length ds ≡ b - code "0"
+      → drop at s ≡ ds ++ (t ++ after) → every isDigit ds ≡ true → valueOf 10 ds ≡ length t → (f : Follows after)
+      → arbitraryData b s at ≡ token (ArbitraryBlockData (viewOf (at + length ds) (at + length ds + length t))) (at + length ds + length t + length (f .white))
   -- an expression that was accepted has the form
   pub expression-form : (s : List ℕ) (at : ℕ) (v : View) (next : ℕ) → expressionData s at ≡ token (ExpressionProgramData v) next → ExpressionForm s v
   -- an expression's body, its bracket, and what may follow it, is accepted with that view

@@ -1,12 +1,12 @@
 -- What may follow an item of program data.
-use Prim.Native.Nat.{ℕ, _+_, _-_}
+use Prim.Native.Nat.{ℕ}
 use mathlib.Core.List.{List}
 use mathlib.Core.Bool.{Bool, cond, _||_}
-use lib.Dec.{leb, ltb}
-use lib.ListN.{length, getD, take, drop}
+use lib.Dec.{leb}
+use lib.ListN.{length, getD}
 use Rattle.error.specs.declared.ErrorCode.{ErrorCode}
 use Rattle.kind.specs.Class.{is, isWhiteSpace}
-use Rattle.util.specs.Run.{run, runEnd}
+use Rattle.util.specs.Run.{runEnd}
 use Rattle.token.specs.declared.Token.{Token}
 use Rattle.data.specs.declared.Read.{Read}
 use Rattle.data.specs.declared.Read.the-variants as read
@@ -25,11 +25,3 @@ endsData s at = leb (length s) at || (is "," (getD s at 0) || is ";" (getD s at 
 -- an item that ends at a place: behind it white space, and then one of these; with anything else it is refused
 unfoldable pub followed : Token → ErrorCode → List ℕ → ℕ → Read
 followed t e s end = cond (endsData s (runEnd isWhiteSpace s end)) (token t (runEnd isWhiteSpace s end)) (refused e)
-
--- how far the class p goes among the next n characters
-unfoldable pub runEndAmong : ℕ → (ℕ → Bool) → List ℕ → ℕ → ℕ
-runEndAmong n p s at = at + run p (take n (drop at s))
-
--- the place 13 characters on, or the end of the text where that comes first
-unfoldable pub nearEnd : List ℕ → ℕ → ℕ
-nearEnd s at = cond (ltb (length s - at) 13) (length s) (at + 13)

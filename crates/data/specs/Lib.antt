@@ -1,4 +1,5 @@
 pub mod Follow
+pub mod Near
 pub mod Word
 pub mod Decimal
 pub mod Nondecimal

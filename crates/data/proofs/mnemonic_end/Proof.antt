@@ -1,7 +1,7 @@
 use Prim.Native.Nat.{_-_, _≤_}
 use mathlib.Core.Path.{_≡_}
 use Rattle.kind.specs.Class.{inMnemonic}
-use Rattle.data.specs.Follow.{runEndAmong}
+use Rattle.data.specs.Near.{runEndAmong}
 use Rattle.data.proofs.Among.{laws}
 use Rattle.data.proofs.mnemonic_end.Statement.{statement}
 use Rattle.data.proofs.mnemonic_end.Tie as tie

@@ -1,7 +1,7 @@
 use Prim.Native.Nat.{_-_, _≤_}
 use mathlib.Core.Path.{_≡_}
 use Rattle.data.specs.Decimal.{inSuffix}
-use Rattle.data.specs.Follow.{runEndAmong}
+use Rattle.data.specs.Near.{runEndAmong}
 use Rattle.data.proofs.Among.{laws}
 use Rattle.data.proofs.suffix_end.Statement.{statement}
 use Rattle.data.proofs.suffix_end.Tie as tie

@@ -50,10 +50,10 @@ pub fn skip_sign(s: &[u8], at: usize) -> usize
 pub fn stands(s: &[u8], at: usize, b: u8) -> bool
     ensures { λ r. ⌜ r ≡ standsAt b (now (s .entry)) at ⌝ }
 {
-    if s.len() <= at {
-        return false;
+    if at < s.len() {
+        return s[at] == b;
     }
-    s[at] == b
+    false
 }
 
 // A letter without its case.

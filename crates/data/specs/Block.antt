@@ -16,7 +16,7 @@ use Rattle.data.specs.Follow.{token, refused, followed}
 use Rattle.data.specs.Nondecimal.{nondecimalData}
 use Rattle.data.specs.declared.Read.{Read}
 
--- so many bytes from a place on
+-- n bytes from a place on, which must all be there
 unfoldable pub payload : List ℕ → ℕ → ℕ → Read
 payload s start n =
     cond (leb (start + n) (length s))
@@ -37,7 +37,7 @@ indefinite s at =
     (token (ArbitraryBlockData (viewOf at (length s - 1))) (length s))
     (refused InvalidBlockData)
 
--- IEEE 488.2 7.7.6.2: a block, from the place behind the digit that says its format
+-- IEEE 488.2 7.7.6.2: a block, from the place behind the digit b that says its format; any other byte is refused
 unfoldable pub arbitraryData : ℕ → List ℕ → ℕ → Read
 arbitraryData b s at =
     cond (isDigit b)

@@ -1,5 +1,5 @@
--- What is proved of these definitions, besides the promises of the functions: what is accepted has the form of the grammar, and
--- what has the form is accepted, with exactly that view. The proofs are in proofs/Claims.
+-- What is proved of these definitions, besides the promises of the functions: a number, string, definite block or expression that
+-- is accepted has the form of the grammar, and what has the form is accepted, with exactly that view. The proofs are in proofs/Claims.
 use Prim.Native.Nat.{ℕ, _+_, _-_}
 use Prim.Native.Char.{code}
 use mathlib.Core.Path.{_≡_}

@@ -40,10 +40,12 @@ mantissa s at = cond (hasWhole s at || hasFraction s (wholeEnd s at)) (At (fract
 unfoldable pub beginsExponent : ℕ → Bool
 beginsExponent b = is "E" b || is "e" b
 
--- IEEE 488.2 7.7.2.2, exponent: none, or E, an optional sign and digits, one at least
+-- IEEE 488.2 7.7.2.2, exponent: none, or E, an optional sign and digits, one at least; the standard allows white space around the
+-- E (docs/DIFFERENCES.md)
 unfoldable pub exponent : List ℕ → ℕ → Place
 exponent s at = cond (beginsExponent (getD s at 0)) (cond (hasWhole s (at + 1)) (At (wholeEnd s (at + 1))) Nowhere) (At at)
 
+-- the place behind a mantissa, moved behind its exponent
 unfoldable pub withExponent : List ℕ → Place → Place
 withExponent s Nowhere = Nowhere
 withExponent s (At end) = exponent s end
@@ -52,6 +54,7 @@ withExponent s (At end) = exponent s end
 unfoldable pub number : List ℕ → ℕ → Place
 number s at = withExponent s (mantissa s at)
 
+-- the number from a place up to its end, as a token
 unfoldable pub numberTo : ℕ → Place → Read
 numberTo at Nowhere = refused NumericDataError
 numberTo at (At end) = token (DecimalNumericProgramData (viewOf at end)) end
@@ -60,10 +63,11 @@ numberTo at (At end) = token (DecimalNumericProgramData (viewOf at end)) end
 unfoldable pub nrf : List ℕ → ℕ → Read
 nrf s at = numberTo at (number s at)
 
--- IEEE 488.2 7.7.3.2: letters, digits, `-`, `/` and `.`
+-- IEEE 488.2 7.7.3.2: letters, digits, `-`, `/` and `.`, in any order (docs/DIFFERENCES.md)
 unfoldable pub inSuffix : ℕ → Bool
 inSuffix b = isLetter b || (isDigit b || (is "-" b || (is "/" b || is "." b)))
 
+-- a letter or `/` begins a suffix
 unfoldable pub beginsSuffix : List ℕ → ℕ → Bool
 beginsSuffix s at = ltb at (length s) && (is "/" (getD s at 0) || isLetter (getD s at 0))
 
@@ -81,6 +85,7 @@ suffixData s v =
     (suffixed s v (runEnd isWhiteSpace s (v .end)))
     (followed (DecimalNumericProgramData v) InvalidSuffix s (v .end))
 
+-- the number from a place up to its end, with what follows it
 unfoldable pub numericTo : List ℕ → ℕ → Place → Read
 numericTo s at Nowhere = refused NumericDataError
 numericTo s at (At end) = suffixData s (viewOf at end)

@@ -11,7 +11,7 @@ use Rattle.token.specs.declared.Token.the-variants.{ExpressionProgramData}
 use Rattle.data.specs.Follow.{refused, followed}
 use Rattle.data.specs.declared.Read.{Read}
 
--- IEEE 488.2 7.7.7.2: ASCII but quotes, `;` and brackets
+-- IEEE 488.2 7.7.7.2: ASCII but quotes, `;` and brackets; the standard keeps `#` and control bytes out too (docs/DIFFERENCES.md)
 unfoldable pub inExpression : ℕ → Bool
 inExpression b = isAscii b && not (isQuote b || (is ";" b || (is "(" b || is ")" b)))
 

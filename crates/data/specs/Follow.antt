@@ -22,6 +22,6 @@ refused = read.Refused
 unfoldable pub endsData : List ℕ → ℕ → Bool
 endsData s at = leb (length s) at || (is "," (getD s at 0) || is ";" (getD s at 0))
 
--- an item that ends at a place: behind it white space, and then one of these; with anything else it is refused
+-- an item that ends at a place: behind it perhaps white space, which is passed, and then one of these; anything else is refused
 unfoldable pub followed : Token → ErrorCode → List ℕ → ℕ → Read
 followed t e s end = cond (endsData s (runEnd isWhiteSpace s end)) (token t (runEnd isWhiteSpace s end)) (refused e)

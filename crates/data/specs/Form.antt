@@ -1,5 +1,7 @@
--- The grammar of program data, IEEE 488.2 7.7: what a text must be made of to be an item.
+-- The grammar of program data, IEEE 488.2 7.7: what a text must be made of to be a number, a string, a definite block or an
+-- expression.
 use Prim.Native.Nat.{ℕ, _+_, _≤_, _<_}
+use Prim.Native.Char.{code}
 use mathlib.Core.Path.{_≡_}
 use mathlib.Core.Logic.{_⊎_}
 use mathlib.Core.List.{List, [], _∷_, _++_}
@@ -24,7 +26,7 @@ pub record Follows (t : List ℕ) : Type 0 where
   pub all-white : every isWhiteSpace white ≡ true
   pub ends : endsData rest 0 ≡ true
 
--- IEEE 488.2 7.7.2.2: an optional sign, and digits.
+-- IEEE 488.2 7.7.2.2: an optional sign, and digits, perhaps none.
 pub record Whole (t : List ℕ) : Type 0 where
   pub sign : List ℕ
   pub digits : List ℕ
@@ -33,7 +35,7 @@ pub record Whole (t : List ℕ) : Type 0 where
   pub all-sign : every isSign sign ≡ true
   pub all-digit : every isDigit digits ≡ true
 
--- IEEE 488.2 7.7.2.2: nothing, or a point and digits.
+-- IEEE 488.2 7.7.2.2: nothing, or a point and digits, perhaps none.
 pub record Fraction (t : List ℕ) : Type 0 where
   pub point : List ℕ
   pub digits : List ℕ
@@ -87,4 +89,4 @@ pub record BlockForm (n : ℕ) (s : List ℕ) (at : ℕ) (v : View) : Type 0 whe
 -- IEEE 488.2 7.7.7.2: an expression's view, and the bracket behind it.
 pub record ExpressionForm (s : List ℕ) (v : View) : Type 0 where
   pub body : every inExpression (partOf s v) ≡ true
-  pub closing : standsAt 41 s (v .end) ≡ true
+  pub closing : standsAt (code ")") s (v .end) ≡ true

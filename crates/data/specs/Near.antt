@@ -1,4 +1,4 @@
--- How far a scan for a word looks. The promises of the public functions cite nothing of this.
+-- The first 13 characters from a place on: enough to tell a word of 12 from a longer one.
 use Prim.Native.Nat.{ℕ, _+_, _-_}
 use mathlib.Core.List.{List}
 use mathlib.Core.Bool.{Bool, cond}

@@ -13,7 +13,7 @@ use Rattle.token.specs.declared.Token.the-variants.{NonDecimalNumericProgramDat
 use Rattle.data.specs.Follow.{refused, followed}
 use Rattle.data.specs.declared.Read.{Read}
 
--- what was found at a place; nothing at all differs there from a byte that is no digit
+-- by what was found at a place; where there is no digit, the end of the text has another number than a byte that is none
 unfoldable pub nondecimalOf : List ℕ → ℕ → Unsigned → Read
 nondecimalOf s at (Value v end) = followed (NonDecimalNumericProgramData v) SuffixNotAllowed s end
 nondecimalOf s at TooLarge = refused DataOutOfRange

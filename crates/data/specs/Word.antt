@@ -16,7 +16,8 @@ use Rattle.data.specs.declared.Read.{Read}
 unfoldable pub starEnd : List ℕ → ℕ → ℕ
 starEnd s at = cond (standsAt (code "*") s at) (at + 1) at
 
--- IEEE 488.2 7.6.1: letters, digits and underscores, a star before them or not, 12 characters at most
+-- IEEE 488.2 7.6.1: letters, digits and underscores, a star before them or not, 12 characters at most with the star; the standard
+-- does not count the star, and has a letter first (docs/DIFFERENCES.md)
 unfoldable pub mnemonic : List ℕ → ℕ → Read
 mnemonic s at =
     cond (leb (runEnd inMnemonic s (starEnd s at) - at) 12)

@@ -11,7 +11,7 @@ use Rattle.number.specs.declared.Radix.the-variants.{Decimal, Hexadecima
 use Rattle.number.specs.declared.Unsigned.the-variants as unsigned
 use Rattle.number.specs.declared.Signed.the-variants as signed
 
--- Worked examples: both ends of each range.
+-- Worked examples: the largest and smallest values, those just beyond, zeros in front, and no digit.
 pub record Rows : Type 0 where
   pub largest : unsignedAt Decimal (ascii "18446744073709551615") 0 ≡ unsigned.Value (2 ^ 64 - 1) 20
   pub too-large : unsignedAt Decimal (ascii "18446744073709551616") 0 ≡ unsigned.TooLarge
@@ -24,7 +24,7 @@ pub record Rows : Type 0 where
   pub sign-alone : signedAt (ascii "-") 0 ≡ signed.NoDigit
 
 pub record Claims : Type 0 where
-  -- a further digit makes the value the base times as much, and itself more
+  -- a further digit multiplies the value by the base, and adds its own
   pub one-more : (base : ℕ) (ds : List ℕ) (d : ℕ) → valueOf base (ds ++ (d ∷ [])) ≡ valueOf base ds * base + digitOf d
   -- zeros in front are worth nothing
   pub leading-zero : (base : ℕ) (ds : List ℕ) → valueOf base (48 ∷ ds) ≡ valueOf base ds

@@ -28,11 +28,11 @@ baseOf Hexadecimal = 16
 unfoldable pub digits : ℕ → List ℕ → List ℕ
 digits base t = take (run (isDigitOf base) t) t
 
--- a number below 2^64, or that it is none
+-- a number where it is below 2^64, and else that it is too large
 unfoldable pub longer : ℕ → Longer
 longer n = cond (ltb n (2 ^ 64)) (limited.Value n) limited.TooLarge
 
--- a value whose digits stand from a place up to their end: there must be one
+-- a value whose digits stand from a place up to their end, and that there is no digit where these are one place
 unfoldable pub foundAt : ℕ → ℕ → ℕ → Unsigned
 foundAt value at end = cond (eqb end at) unsigned.NoDigit (unsigned.Value value end)
 
@@ -40,7 +40,7 @@ foundAt value at end = cond (eqb end at) unsigned.NoDigit (unsigned.Value value 
 unfoldable pub unsignedOf : ℕ → ℕ → List ℕ → Unsigned
 unsignedOf base at ds = cond (ltb (valueOf base ds) (2 ^ 64)) (foundAt (valueOf base ds) at (at + length ds)) unsigned.TooLarge
 
--- IEEE 488.2 7.7.4.2: the number that begins at a place
+-- IEEE 488.2 7.7.4.2, and 7.7.6.2 for base ten: the number that begins at a place
 unfoldable pub unsignedAt : Radix → List ℕ → ℕ → Unsigned
 unsignedAt radix s at = unsignedOf (baseOf radix) at (digits (baseOf radix) (drop at s))
 

@@ -23,7 +23,7 @@ use Rattle.tokenizer.specs.declared.State.{State}
 use Rattle.tokenizer.specs.declared.Answer.the-variants as answer
 use Rattle.tokenizer.specs.declared.Step.{Step}
 
--- a place, whether it is in a header, and whether in that of a common command
+-- a place, whether it is in a header, and whether a star has been read in this message unit
 abbrev pub stateOf : ℕ → Bool → Bool → State
 stateOf place header common = record { place = place; in_header = header; in_common = common }
 
@@ -52,14 +52,16 @@ refusal s st e = record { answer = answer.Refused e; state = stateOf (length s) 
 unfoldable pub ended : State → ℕ → Step
 ended st place = record { answer = answer.End; state = stateOf place (inHeader st) (inCommon st) }
 
--- what was read at a place, with in-common as it is from there on
+-- what was read at a place, with in-common as it is from there on; a refusal keeps the old one
 unfoldable pub readAs : List ℕ → State → Bool → Read → Step
 readAs s st common (read.Token t next) = taken t next (inHeader st) common
 readAs s st common (read.Refused e) = refusal s st e
 
--- an item of data, or a mnemonic, leaves the flags as they were
+-- an item of data, or a mnemonic without a star, leaves the flags as they were
 abbrev pub form : List ℕ → State → Read → Step
 form s st r = readAs s st (inCommon st) r
+
+-- In the next four the place `next` is the one behind the byte.
 
 -- IEEE 488.2 7.5: a newline ends the message where it is its last byte
 unfoldable pub newlineBefore : List ℕ → State → ℕ → Step
@@ -80,32 +82,33 @@ colonBefore s st next =
 unfoldable pub followsQuery : List ℕ → ℕ → Bool
 followsQuery s at = leb (length s) at || (is ";" (getD s at 0) || isWhiteSpace (getD s at 0))
 
--- IEEE 488.2 7.6.1: a question mark ends a header
+-- IEEE 488.2 7.6.2: a question mark ends a header
 unfoldable pub questionBefore : List ℕ → State → ℕ → Step
 questionBefore s st next =
     cond (followsQuery s next && inHeader st)
     (taken HeaderQuerySuffix next false (inCommon st))
     (refusal s st SyntaxError)
 
--- IEEE 488.2 7.4.2: a comma between items of data, behind which none of `,` and `;` may come next; white space is passed
+-- IEEE 488.2 7.4.2: a comma between items of data: white space behind it is passed, and then neither `,` nor `;` may stand
 unfoldable pub commaTo : List ℕ → State → ℕ → Step
-commaTo s st next =
-    cond (standsAt (code ",") s next || standsAt (code ";") s next)
+commaTo s st to =
+    cond (standsAt (code ",") s to || standsAt (code ";") s to)
     (refusal s st SyntaxError)
-    (taken ProgramDataSeparator next (inHeader st) (inCommon st))
+    (taken ProgramDataSeparator to (inHeader st) (inCommon st))
 
 unfoldable pub commaBefore : List ℕ → State → ℕ → Step
-commaBefore s st at = cond (inHeader st) (refusal s st HeaderSeparatorError) (commaTo s st (runEnd isWhiteSpace s at))
+commaBefore s st next = cond (inHeader st) (refusal s st HeaderSeparatorError) (commaTo s st (runEnd isWhiteSpace s next))
 
 -- a letter begins a mnemonic in a header, and character data elsewhere
 unfoldable pub wordAt : List ℕ → State → ℕ → Step
 wordAt s st at = cond (inHeader st) (form s st (mnemonic s at)) (form s st (characterData s at))
 
--- any other item of data is refused in a header
+-- a number, a string, or what a `#` begins is refused in a header; an expression is not
 unfoldable pub outside : List ℕ → State → Read → Step
 outside s st r = cond (inHeader st) (refusal s st CommandHeaderError) (form s st r)
 
--- the step at a place, by the kind of the byte that stands there; digits, signs and points come last
+-- The step at a place, by the kind of the byte that stands there; digits, signs and points come last. A semicolon begins a
+-- message unit (IEEE 488.2 7.4.1), and white space ends a header (7.4.3).
 unfoldable pub byKind : List ℕ → State → ℕ → ℕ → ℕ → Step
 byKind s st at b k =
     cond (eqb k newline) (newlineBefore s st (at + 1))

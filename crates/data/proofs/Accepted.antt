@@ -1,31 +1,36 @@
 -- What an accepted item tells of the tests on its way, and of its view.
 use Prim.Native.Nat.{ℕ, suc, _+_, _-_, _≤_, _<_}
-use mathlib.Core.Path.{_≡_, refl, ap, _∙_}
+use mathlib.Core.Path.{_≡_, refl, sym, ap, _∙_}
 use mathlib.Core.List.{List, [], _∷_, _++_}
 use mathlib.Core.Bool.{Bool, true, false, cond, false≢true}
 use mathlib.Core.Logic.{⊎-elim}
-use native.Mathlib.Nat.{le-refl}
+use native.Mathlib.Nat.{le-refl, add-zero}
 use native.Mathlib.Omega.{arith}
-use lib.ListN.{length, take, drop, length-drop}
-use lib.Seq.{take-add, drop-drop}
-use borrow.Author.Tests.{le-leb}
+use lib.ListN.{length, take, drop, length-drop, take-append-drop}
+use lib.Seq.{take-add, drop-drop, getD-drop}
+use borrow.Author.Tests.{le-leb, lt-leb}
 use Rattle.error.specs.declared.ErrorCode.{ErrorCode}
 use Rattle.kind.specs.Class.{isWhiteSpace}
 use Rattle.kind.proofs.Tests.{and-both, less-or-not}
 use Rattle.util.specs.Run.{run, runEnd, every}
-use Rattle.util.proofs.Runs.{run-past}
+use Rattle.util.proofs.Runs.{run-from, run-past}
 use Rattle.number.proofs.Values.{taken}
 use Rattle.token.specs.View.{viewOf, partOf}
 use Rattle.token.specs.declared.View.{View}
 use Rattle.token.specs.declared.Token.{Token}
 use Rattle.token.specs.declared.Token.the-variants.{HeaderMnemonicSeparator, HeaderQuerySuffix, ProgramMessageUnitSeparator, ProgramHeaderSeparator, ProgramDataSeparator, ProgramMnemonic, CharacterProgramData, DecimalNumericProgramData, DecimalNumericSuffixProgramData, NonDecimalNumericProgramData, StringProgramData, ArbitraryBlockData, ExpressionProgramData}
 use Rattle.data.specs.Follow.{token, refused, endsData, followed}
+use Rattle.data.specs.Form.{Ended}
 use Rattle.data.specs.declared.Read.{Read}
 use Rattle.data.specs.declared.Read.the-variants as read
 
 abbrev isToken : Read → Bool
 isToken (read.Token t next) = true
 isToken (read.Refused e) = false
+
+abbrev nextIn : Read → ℕ
+nextIn (read.Token t next) = next
+nextIn (read.Refused e) = 0
 
 abbrev tokenIn : Read → Token
 tokenIn (read.Token t next) = t
@@ -147,3 +152,36 @@ module _ (s : List ℕ) where
   pub run-most : (p : ℕ → Bool) (a : ℕ) → a ≤ length s → runEnd p s a ≤ length s
   unfolding runEnd
   run-most p a h = omega (arith, run-short p (drop a s), length-drop a s)
+
+-- what follows an item that was accepted
+ends-there : (s : List ℕ) (i : ℕ) → endsData s i ≡ true → endsData (drop i s) 0 ≡ true
+unfolding endsData
+ends-there s i h =
+    ⊎-elim
+    (λ k.
+    let l : 0 < length (drop i s) = omega (arith, k, length-drop i s) in
+    rw (lt-leb (length (drop i s)) 0 l, getD-drop i s 0 0, add-zero i) (rw (lt-leb (length s) i k) at h))
+    (λ k.
+    let l : length (drop i s) ≤ 0 = omega (arith, k, length-drop i s) in
+    rw (le-leb (length (drop i s)) 0 l))
+    (less-or-not i (length s))
+
+pub ended : (t u : Token) (e : ErrorCode) (s : List ℕ) (end next : ℕ) → followed u e s end ≡ token t next → Ended s end next
+unfolding followed
+ended t u e s end next h =
+    let w : ℕ = runEnd isWhiteSpace s end in
+    let c = only-then t next (endsData s w) (token u w) e h in
+    let n : w ≡ next = ap nextIn (c .1) in
+    let k : end ≤ w = run-from isWhiteSpace s end in
+    let f : end + (w - end) ≡ w = omega (arith, k) in
+    record {
+      follows =
+          record {
+            white = part s end w;
+            rest = drop w s;
+            parts = sym (take-append-drop (w - end) (drop end s)) ∙ ap (λ (x : List ℕ). part s end w ++ x) (drop-drop (w - end) end s ∙ rw f);
+            all-white = part-run s isWhiteSpace end;
+            ends = ends-there s w (c .0);
+          };
+      behind = omega (arith, sym n, k, part-length s isWhiteSpace end);
+    }

@@ -22,9 +22,9 @@ use Rattle.data.specs.Follow.{token, refused, followed}
 use Rattle.data.specs.String.{inString, stringEnd, closed, stringData}
 use Rattle.data.specs.Block.{payload, definite, indefinite, arbitraryData}
 use Rattle.data.specs.Expression.{inExpression, bracketed, expressionData}
-use Rattle.data.specs.Form.{Follows, StringBody, StringForm, BlockForm, ExpressionForm}
+use Rattle.data.specs.Form.{Follows, Ended, StringBody, StringForm, BlockForm, ExpressionForm}
 use Rattle.data.specs.Form.StringBody.{empty, plain, doubled}
-use Rattle.data.proofs.Accepted.{viewIn, only-then, only-else, only-followed, part-shown, part-run}
+use Rattle.data.proofs.Accepted.{viewIn, only-then, only-else, only-followed, ended, part-shown, part-run}
 use Rattle.data.proofs.Strings.{plain as in-plain, doubled as in-doubled}
 use Rattle.data.proofs.Seams.{here-get, here-inside, here-stands, here-next, here-run, here-length, after-none, white-none, well-followed}
 
@@ -34,17 +34,22 @@ unfolding standsAt
 stands-inside b s i h = ltb-true i (length s) (and-left (ltb i (length s)) (eqb (getD s i 0) b) h)
 
 module _ (s : List ℕ) (at : ℕ) where
-  pub expression-form : (v : View) (next : ℕ) → expressionData s at ≡ token (ExpressionProgramData v) next → ExpressionForm s v
+  pub expression-form : (v : View) (next : ℕ) → expressionData s at ≡ token (ExpressionProgramData v) next
+      → (v .start ≡ at) × ExpressionForm s v × Ended s (v .end + 1) next
   unfolding expressionData bracketed
   expression-form v next h =
       let end : ℕ = runEnd inExpression s at in
       let c = only-then (ExpressionProgramData v) next (standsAt 41 s end) (followed (ExpressionProgramData (viewOf at end)) SuffixNotAllowed s (end + 1)) InvalidExpression h in
       let e : viewOf at end ≡ v = ap viewIn (only-followed (ExpressionProgramData v) next (ExpressionProgramData (viewOf at end)) SuffixNotAllowed s (end + 1) (c .1)) in
-      let k : end ≤ length s = omega (arith, stands-inside 41 s end (c .0)) in
-      record {
-        body = rw (← e, part-shown s at end (run-from inExpression s at) k) (part-run s inExpression at);
-        closing = rw (← e) (c .0);
-      }
+      let k : end ≤ length s = omega (arith, stands-inside 41 s end (c .0)) in (
+        rw (← e),
+        record {
+          forward = rw (← e) (run-from inExpression s at);
+          body = rw (← e, part-shown s at end (run-from inExpression s at) k) (part-run s inExpression at);
+          closing = rw (← e) (c .0);
+        },
+        rw (← e) (ended (ExpressionProgramData v) (ExpressionProgramData (viewOf at end)) SuffixNotAllowed s (end + 1) next (c .1)),
+      )
 
   pub expression-read : (t after : List ℕ) → drop at s ≡ t ++ 41 ∷ after → every inExpression t ≡ true → (f : Follows after)
       → expressionData s at ≡ token (ExpressionProgramData (viewOf at (at + length t))) (at + length t + 1 + length (f .white))
@@ -92,7 +97,8 @@ module _ (q : ℕ) where
       none c a b d e g z k u = after-none (λ b. eqb b c) (white-none (λ b. eqb b c) a b d e g) z k u y f
 
   module _ (s : List ℕ) (at : ℕ) where
-    pub string-form : (v : View) (next : ℕ) → stringData q s at ≡ token (StringProgramData v) next → StringForm q s v
+    pub string-form : (v : View) (next : ℕ) → stringData q s at ≡ token (StringProgramData v) next
+        → (v .start ≡ at) × StringForm q s v × Ended s (v .end + 1) next
     unfolding stringData closed stringEnd standsAt
     string-form v next h =
         let end : ℕ = at + inString q (drop at s) in
@@ -101,10 +107,15 @@ module _ (q : ℕ) where
         let e : viewOf at end ≡ v = ap viewIn (only-followed (StringProgramData v) next (StringProgramData (viewOf at end)) SuffixNotAllowed s (end + 1) (d .1)) in
         let k : end < length s = leb-false (length s) end (c .0) in
         let m : end - at ≡ inString q (drop at s) = omega arith in
-        record {
-          body = rw (← e, part-shown s at end (omega arith) (omega (arith, k)), m) (body (drop at s));
-          closing = rw (← e, lt-ltb end (length s) k) (d .0);
-        }
+        let l : at ≤ end = omega arith in (
+          rw (← e),
+          record {
+            forward = rw (← e) l;
+            body = rw (← e, part-shown s at end l (omega (arith, k)), m) (body (drop at s));
+            closing = rw (← e, lt-ltb end (length s) k) (d .0);
+          },
+          rw (← e) (ended (StringProgramData v) (StringProgramData (viewOf at end)) SuffixNotAllowed s (end + 1) next (d .1)),
+        )
 
     pub string-read : (t after : List ℕ) → isQuote q ≡ true → drop at s ≡ t ++ q ∷ after → StringBody q t → (f : Follows after)
         → stringData q s at ≡ token (StringProgramData (viewOf at (at + length t))) (at + length t + 1 + length (f .white))
@@ -115,19 +126,21 @@ module _ (q : ℕ) where
         (well-followed (StringProgramData (viewOf at (at + length t))) SuffixNotAllowed s (at + length t + 1) after (here-next s (at + length t) (q ∷ []) after n) f)
 
 module _ (s : List ℕ) (at : ℕ) where
-  definite-form : (n : ℕ) (v : View) (next : ℕ) → definite s at n ≡ token (ArbitraryBlockData v) next → BlockForm n s at v
+  definite-form : (n : ℕ) (v : View) (next : ℕ) → definite s at n ≡ token (ArbitraryBlockData v) next → BlockForm n s at v × Ended s (v .end) next
   unfolding definite payload
   definite-form n v next h =
       let m : ℕ = valueOf 10 (take n (drop at s)) in
       let c = only-then (ArbitraryBlockData v) next (leb (at + n) (length s) && every isDigit (take n (drop at s))) (payload s (at + n) m) InvalidBlockData h in
       let d = only-then (ArbitraryBlockData v) next (leb (at + n + m) (length s)) (followed (ArbitraryBlockData (viewOf (at + n) (at + n + m))) SuffixNotAllowed s (at + n + m)) InvalidBlockData (c .1) in
-      let e : viewOf (at + n) (at + n + m) ≡ v = ap viewIn (only-followed (ArbitraryBlockData v) next (ArbitraryBlockData (viewOf (at + n) (at + n + m))) SuffixNotAllowed s (at + n + m) (d .1)) in
-      record {
-        start = rw (← e);
-        all-digit = and-right (leb (at + n) (length s)) (every isDigit (take n (drop at s))) (c .0);
-        as-long = rw (← e);
-        inside = rw (← e) (leb-true (at + n + m) (length s) (d .0));
-      }
+      let e : viewOf (at + n) (at + n + m) ≡ v = ap viewIn (only-followed (ArbitraryBlockData v) next (ArbitraryBlockData (viewOf (at + n) (at + n + m))) SuffixNotAllowed s (at + n + m) (d .1)) in (
+        record {
+          start = rw (← e);
+          all-digit = and-right (leb (at + n) (length s)) (every isDigit (take n (drop at s))) (c .0);
+          as-long = rw (← e);
+          inside = rw (← e) (leb-true (at + n + m) (length s) (d .0));
+        },
+        rw (← e) (ended (ArbitraryBlockData v) (ArbitraryBlockData (viewOf (at + n) (at + n + m))) SuffixNotAllowed s (at + n + m) next (d .1)),
+      )
 
   definite-read : (ds t after : List ℕ) → drop at s ≡ ds ++ (t ++ after) → 0 < length ds → every isDigit ds ≡ true → valueOf 10 ds ≡ length t → (f : Follows after)
       → definite s at (length ds) ≡ token (ArbitraryBlockData (viewOf (at + length ds) (at + length ds + length t))) (at + length ds + length t + length (f .white))
@@ -142,7 +155,8 @@ module _ (s : List ℕ) (at : ℕ) where
       (well-followed (ArbitraryBlockData (viewOf (at + length ds) (at + length ds + length t))) SuffixNotAllowed s (at + length ds + length t) after (here-next s (at + length ds) t after n) f)
 
 module _ (b : ℕ) (s : List ℕ) (at : ℕ) where
-  pub block-form : (v : View) (next : ℕ) → eqb b 48 ≡ false → arbitraryData b s at ≡ token (ArbitraryBlockData v) next → BlockForm (b - 48) s at v
+  pub block-form : (v : View) (next : ℕ) → eqb b 48 ≡ false → arbitraryData b s at ≡ token (ArbitraryBlockData v) next
+      → BlockForm (b - 48) s at v × Ended s (v .end) next
   unfolding arbitraryData
   block-form v next z h =
       definite-form s at (b - 48) v next

@@ -7,11 +7,12 @@ use mathlib.Core.Logic.{_⊎_, inl, inr, ⊎-elim}
 use native.Mathlib.Omega.{arith}
 use lib.Dec.{eqb, leb, ltb}
 use lib.ListN.{length, getD, take, drop, List·getD-eq-default}
-use lib.Seq.{drop-cons}
-use borrow.Author.Tests.{eqb-true, ltb-true, leb-true}
+use native.Mathlib.Nat.{add-zero}
+use lib.Seq.{drop-cons, getD-take, getD-drop}
+use borrow.Author.Tests.{eqb-true, lt-ltb, ltb-true, leb-true}
 use Rattle.error.specs.declared.ErrorCode.the-variants.{NumericDataError, InvalidSuffix, SuffixTooLong}
-use Rattle.kind.specs.Class.{isWhiteSpace, isSign, isDigit}
-use Rattle.kind.proofs.Tests.{and-left, and-right, less-or-not}
+use Rattle.kind.specs.Class.{isWhiteSpace, isSign, isDigit, isLetter, isCapital, isSmall}
+use Rattle.kind.proofs.Tests.{either, or-left, and-left, and-right, less-or-not}
 use Rattle.util.specs.Run.{runEnd, signEnd, every, standsAt}
 use Rattle.util.proofs.Runs.{run-from}
 use Rattle.token.specs.View.{viewOf, partOf}
@@ -19,12 +20,12 @@ use Rattle.token.specs.declared.View.{View}
 use Rattle.token.specs.declared.Token.the-variants.{DecimalNumericProgramData, DecimalNumericSuffixProgramData}
 use Rattle.data.specs.Follow.{token, followed}
 use Rattle.data.specs.Decimal.{wholeEnd, hasWhole, fractionEnd, hasFraction, mantissa, beginsExponent, exponent, withExponent, number, inSuffix, beginsSuffix, suffixed, suffixData, numericTo, numericData}
-use Rattle.data.specs.Form.{Whole, Fraction, Exponent, Number, Suffix}
+use Rattle.data.specs.Form.{Whole, Fraction, Exponent, Number, Suffix, Ended}
 use Rattle.data.specs.declared.Place.{Place}
 use Rattle.data.specs.declared.Place.the-variants.{At, Nowhere}
-use Rattle.data.proofs.Accepted.{viewIn, suffixIn, hasSuffix, only-then, only-token, only-followed, part, part-shown, part-joined, part-run, part-length, run-inside, run-most}
+use Rattle.data.proofs.Accepted.{viewIn, suffixIn, hasSuffix, only-then, only-token, only-followed, ended, part, part-shown, part-joined, part-run, part-length, run-inside, run-most}
 use Rattle.data.proofs.Decimals.{fraction-from}
-use Rattle.data.proofs.Progress.{sign-from, whole-from}
+use Rattle.data.proofs.Progress.{run-moves, sign-from, whole-from}
 
 abbrev isAt : Place → Bool
 isAt (At i) = true
@@ -194,6 +195,10 @@ module _ (s : List ℕ) (i : ℕ) where
             inr (record { letter = getD s i 0; power = part s (i + 1) (wholeEnd s (i + 1)); parts = f; is-e = b; whole = whole-form s (i + 1); some-digit = whole-digits s (i + 1) w }),
           )
 
+slash : (b : ℕ) → eqb b 47 ≡ true → inSuffix b ≡ true
+unfolding inSuffix isLetter isCapital isSmall isDigit
+slash b h = rw (eqb-true b 47 h)
+
 -- a number that was found, inside the text
 record Found (s : List ℕ) (at end : ℕ) : Type 0 where
   pub forward : at ≤ end
@@ -240,48 +245,70 @@ module _ (s : List ℕ) (at : ℕ) where
       let f : Found s at end = found end e in
       rw (part-shown s at end (f .forward) (f .inside-text)) (f .form)
 
+  -- a letter or `/` is first
+  suffix-first : (j : ℕ) → beginsSuffix s j ≡ true → beginsSuffix (part s j (runEnd inSuffix s j)) 0 ≡ true
+  unfolding beginsSuffix inSuffix
+  suffix-first j h =
+      let b : ℕ = getD s j 0 in
+      let l : j < length s = ltb-true j (length s) (and-left (ltb j (length s)) (eqb b 47 || isLetter b) h) in
+      let f : (eqb b 47 || isLetter b) ≡ true = and-right (ltb j (length s)) (eqb b 47 || isLetter b) h in
+      let m : j < runEnd inSuffix s j = run-moves inSuffix s j l (⊎-elim (λ k. slash b k) (λ k. or-left (isDigit b || (eqb b 45 || (eqb b 47 || eqb b 46))) k) (either (eqb b 47) (isLetter b) f)) in
+      let n : 0 < length (part s j (runEnd inSuffix s j)) = omega (arith, m, part-length s inSuffix j) in
+      let g : getD (part s j (runEnd inSuffix s j)) 0 0 ≡ b = getD-take (runEnd inSuffix s j - j) (drop j s) 0 0 (omega (arith, m)) ∙ getD-drop j s 0 0 ∙ ap (λ (k : ℕ). getD s k 0) (add-zero j) in
+      rw (lt-ltb 0 (length (part s j (runEnd inSuffix s j))) n, g) f
+
   suffix-shown : (j : ℕ) → beginsSuffix s j ≡ true → leb (runEnd inSuffix s j - j) 12 ≡ true → Suffix (partOf s (viewOf j (runEnd inSuffix s j)))
   unfolding beginsSuffix
   suffix-shown j h k =
       let l : j < length s = ltb-true j (length s) (and-left (ltb j (length s)) _ h) in
       rw (part-shown s j (runEnd inSuffix s j) (run-from inSuffix s j) (run-most s inSuffix j (omega (arith, l))))
-      (record { all-suffix = part-run s inSuffix j; at-most = omega (arith, part-length s inSuffix j, leb-true (runEnd inSuffix s j - j) 12 k) })
+      (record { first = suffix-first j h; all-suffix = part-run s inSuffix j; at-most = omega (arith, part-length s inSuffix j, leb-true (runEnd inSuffix s j - j) 12 k) })
 
-  pub number-form : (v : View) (next : ℕ) → numericData s at ≡ token (DecimalNumericProgramData v) next → Number (partOf s v)
+  pub number-form : (v : View) (next : ℕ) → numericData s at ≡ token (DecimalNumericProgramData v) next → (v .start ≡ at) × Number (partOf s v) × Ended s (v .end) next
   unfolding numericData numericTo suffixData suffixed
   number-form v next = go (number s at) refl
     where
       after : (end : ℕ) → number s at ≡ At end → (c : Bool)
           → cond c (suffixed s (viewOf at end) (runEnd isWhiteSpace s end)) (followed (DecimalNumericProgramData (viewOf at end)) InvalidSuffix s end) ≡ token (DecimalNumericProgramData v) next
-          → Number (partOf s v)
+          → (v .start ≡ at) × Number (partOf s v) × Ended s (v .end) next
       after end e true h =
           let j : ℕ = runEnd isWhiteSpace s end in
           let t = DecimalNumericSuffixProgramData (viewOf at end) (viewOf j (runEnd inSuffix s j)) in
           let c = only-then (DecimalNumericProgramData v) next (leb (runEnd inSuffix s j - j) 12) (followed t InvalidSuffix s (runEnd inSuffix s j)) SuffixTooLong h in
           absurd (true≢false (ap hasSuffix (only-followed (DecimalNumericProgramData v) next t InvalidSuffix s (runEnd inSuffix s j) (c .1))))
       after end e false h =
-          rw (← ap viewIn (only-followed (DecimalNumericProgramData v) next (DecimalNumericProgramData (viewOf at end)) InvalidSuffix s end h)) (shown end e)
+          let q : viewOf at end ≡ v = ap viewIn (only-followed (DecimalNumericProgramData v) next (DecimalNumericProgramData (viewOf at end)) InvalidSuffix s end h) in
+          (rw (← q), rw (← q) (shown end e), rw (← q) (ended (DecimalNumericProgramData v) (DecimalNumericProgramData (viewOf at end)) InvalidSuffix s end next h))
 
-      go : (m : Place) → number s at ≡ m → numericTo s at m ≡ token (DecimalNumericProgramData v) next → Number (partOf s v)
+      go : (m : Place) → number s at ≡ m → numericTo s at m ≡ token (DecimalNumericProgramData v) next → (v .start ≡ at) × Number (partOf s v) × Ended s (v .end) next
       go Nowhere e h = absurd (only-token (DecimalNumericProgramData v) next NumericDataError h)
       go (At end) e h = after end e (beginsSuffix s (runEnd isWhiteSpace s end)) h
 
-  pub suffix-form : (v u : View) (next : ℕ) → numericData s at ≡ token (DecimalNumericSuffixProgramData v u) next → Number (partOf s v) × Suffix (partOf s u)
+  pub suffix-form : (v u : View) (next : ℕ) → numericData s at ≡ token (DecimalNumericSuffixProgramData v u) next
+      → (v .start ≡ at) × Number (partOf s v) × (u .start ≡ runEnd isWhiteSpace s (v .end)) × Suffix (partOf s u) × Ended s (u .end) next
   unfolding numericData numericTo suffixData suffixed
   suffix-form v u next = go (number s at) refl
     where
       after : (end : ℕ) → number s at ≡ At end → (c : Bool) → beginsSuffix s (runEnd isWhiteSpace s end) ≡ c
           → cond c (suffixed s (viewOf at end) (runEnd isWhiteSpace s end)) (followed (DecimalNumericProgramData (viewOf at end)) InvalidSuffix s end) ≡ token (DecimalNumericSuffixProgramData v u) next
-          → Number (partOf s v) × Suffix (partOf s u)
+          → (v .start ≡ at) × Number (partOf s v) × (u .start ≡ runEnd isWhiteSpace s (v .end)) × Suffix (partOf s u) × Ended s (u .end) next
       after end e true b h =
           let j : ℕ = runEnd isWhiteSpace s end in
           let t = DecimalNumericSuffixProgramData (viewOf at end) (viewOf j (runEnd inSuffix s j)) in
           let c = only-then (DecimalNumericSuffixProgramData v u) next (leb (runEnd inSuffix s j - j) 12) (followed t InvalidSuffix s (runEnd inSuffix s j)) SuffixTooLong h in
           let q : t ≡ DecimalNumericSuffixProgramData v u = only-followed (DecimalNumericSuffixProgramData v u) next t InvalidSuffix s (runEnd inSuffix s j) (c .1) in
-          (rw (← ap viewIn q) (shown end e), rw (← ap suffixIn q) (suffix-shown j b (c .0)))
+          let x : viewOf at end ≡ v = ap viewIn q in
+          let y : viewOf j (runEnd inSuffix s j) ≡ u = ap suffixIn q in (
+            rw (← x),
+            rw (← x) (shown end e),
+            rw (← x, ← y),
+            rw (← y) (suffix-shown j b (c .0)),
+            rw (← y) (ended (DecimalNumericSuffixProgramData v u) t InvalidSuffix s (runEnd inSuffix s j) next (c .1)),
+          )
       after end e false b h =
           absurd (false≢true (ap hasSuffix (only-followed (DecimalNumericSuffixProgramData v u) next (DecimalNumericProgramData (viewOf at end)) InvalidSuffix s end h)))
 
-      go : (m : Place) → number s at ≡ m → numericTo s at m ≡ token (DecimalNumericSuffixProgramData v u) next → Number (partOf s v) × Suffix (partOf s u)
+      go : (m : Place) → number s at ≡ m → numericTo s at m ≡ token (DecimalNumericSuffixProgramData v u) next
+          → (v .start ≡ at) × Number (partOf s v) × (u .start ≡ runEnd isWhiteSpace s (v .end)) × Suffix (partOf s u) × Ended s (u .end) next
       go Nowhere e h = absurd (only-token (DecimalNumericSuffixProgramData v u) next NumericDataError h)
       go (At end) e h = after end e (beginsSuffix s (runEnd isWhiteSpace s end)) refl h

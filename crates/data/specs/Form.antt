@@ -15,7 +15,7 @@ use Rattle.number.specs.Digit.{valueOf}
 use Rattle.token.specs.View.{partOf}
 use Rattle.token.specs.declared.View.{View}
 use Rattle.data.specs.Follow.{endsData}
-use Rattle.data.specs.Decimal.{beginsExponent, inSuffix}
+use Rattle.data.specs.Decimal.{beginsExponent, inSuffix, beginsSuffix}
 use Rattle.data.specs.Expression.{inExpression}
 
 -- What may follow an item: white space, and then the end of the text, `,` or `;`.
@@ -25,6 +25,11 @@ pub record Follows (t : List ℕ) : Type 0 where
   pub parts : t ≡ white ++ rest
   pub all-white : every isWhiteSpace white ≡ true
   pub ends : endsData rest 0 ≡ true
+
+-- An item that ends at a place is followed so, and `next` is the place behind the white space.
+pub record Ended (s : List ℕ) (end next : ℕ) : Type 0 where
+  pub follows : Follows (drop end s)
+  pub behind : next ≡ end + length (follows .white)
 
 -- IEEE 488.2 7.7.2.2: an optional sign, and digits, perhaps none.
 pub record Whole (t : List ℕ) : Type 0 where
@@ -63,8 +68,9 @@ pub record Number (t : List ℕ) : Type 0 where
   pub some-digit : 0 < length (whole .digits) + length (fraction .digits)
   pub exponent : (power ≡ []) ⊎ Exponent power
 
--- IEEE 488.2 7.7.3.2: letters, digits, `-`, `/` and `.`, 12 at most.
+-- IEEE 488.2 7.7.3.2: letters, digits, `-`, `/` and `.`, a letter or `/` first, 12 at most.
 pub record Suffix (t : List ℕ) : Type 0 where
+  pub first : beginsSuffix t 0 ≡ true
   pub all-suffix : every inSuffix t ≡ true
   pub at-most : length t ≤ 12
 
@@ -76,6 +82,7 @@ pub data StringBody (q : ℕ) : List ℕ → Type 0 where
 
 -- A string's view, and the quote behind it.
 pub record StringForm (q : ℕ) (s : List ℕ) (v : View) : Type 0 where
+  pub forward : v .start ≤ v .end
   pub body : StringBody q (partOf s v)
   pub closing : standsAt q s (v .end) ≡ true
 
@@ -88,5 +95,6 @@ pub record BlockForm (n : ℕ) (s : List ℕ) (at : ℕ) (v : View) : Type 0 whe
 
 -- IEEE 488.2 7.7.7.2: an expression's view, and the bracket behind it.
 pub record ExpressionForm (s : List ℕ) (v : View) : Type 0 where
+  pub forward : v .start ≤ v .end
   pub body : every inExpression (partOf s v) ≡ true
   pub closing : standsAt (code ")") s (v .end) ≡ true

@@ -60,7 +60,7 @@ no-refusal f q = absurd (true≢false (sym (ap isRefusal q) ∙ f))
 module _ (s : List ℕ) (st : State) where
   moves : st .place < length s → st .place < (step s st) .state .place
   unfolding taken refusal ended
-  moves h = each s st (λ (x : Step). st .place < x .state .place) (λ e. h) (λ t next header common k. k) (λ next k. k) h
+  moves h = each s st (λ (x : Step). st .place < x .state .place) (λ e. h) (λ t next header common k. k) (λ next k l. k) h
 
   rests : length s ≤ st .place → step s st ≡ record { answer = End; state = st }
   rests h = sym (end′ s st h)
@@ -69,7 +69,7 @@ module _ (s : List ℕ) (st : State) where
   unfolding taken refusal ended
   refusal-state e =
       ⊎-elim
-      (λ h. each s st P (λ f q. refl) (λ t next header common k q. no-refusal refl q) (λ next k q. no-refusal refl q) h)
+      (λ h. each s st P (λ f q. refl) (λ t next header common k q. no-refusal refl q) (λ next k l q. no-refusal refl q) h)
       (λ h q. no-refusal refl (rw (rests h) at q))
       (less-or-not (st .place) (length s))
     where
@@ -78,6 +78,27 @@ module _ (s : List ℕ) (st : State) where
 
 after-refusal : (s : List ℕ) (st : State) (e : ErrorCode) → (step s st) .answer ≡ Refused e → (step s ((step s st) .state)) .answer ≡ End
 after-refusal s st e q = rw (refusal-state s st e q, rests s (stateOf (length s) (inHeader st) (inCommon st)) (omega arith))
+
+-- what tells End from the other answers
+abbrev isEnd : Answer → Bool
+isEnd (Token t) = false
+isEnd (Refused e) = false
+isEnd End = true
+
+no-end : {A : Type 0} {x : Answer} → isEnd x ≡ false → x ≡ End → A
+no-end f q = absurd (true≢false (sym (ap isEnd q) ∙ f))
+
+end-stays : (s : List ℕ) (st : State) → (step s st) .answer ≡ End → step s ((step s st) .state) ≡ record { answer = End; state = (step s st) .state }
+unfolding taken refusal ended
+end-stays s st q =
+    rests s ((step s st) .state)
+    (⊎-elim
+    (λ h. each s st P (λ e z. no-end refl z) (λ t next header common k z. no-end refl z) (λ next k l z. l) h q)
+    (λ h. rw (rests s st h) h)
+    (less-or-not (st .place) (length s)))
+  where
+    P : Step → Type 0
+    P x = x .answer ≡ End → length s ≤ x .state .place
 
 -- n steps lead to the end of the text where no more than n bytes are left
 left : (s : List ℕ) (n : ℕ) (st : State) → length s ≤ st .place + n → length s ≤ (after s n st) .place
@@ -90,4 +111,4 @@ at-most : (s : List ℕ) (st : State) → (step s (after s (length s) st)) .answ
 at-most s st = rw (rests s (after s (length s) st) (left s (length s) st (omega arith)))
 
 pub claims : Claims
-claims = record { moves = moves; rests = rests; refusal-state = refusal-state; after-refusal = after-refusal; at-most = at-most; rows = rows }
+claims = record { moves = moves; rests = rests; refusal-state = refusal-state; after-refusal = after-refusal; end-stays = end-stays; at-most = at-most; rows = rows }

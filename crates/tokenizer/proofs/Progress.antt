@@ -1,5 +1,5 @@
 -- Each step inside the text moves the place.
-use Prim.Native.Nat.{ℕ, _+_, _<_}
+use Prim.Native.Nat.{ℕ, _+_, _≤_, _<_}
 use mathlib.Core.Path.{_≡_}
 use mathlib.Core.Logic.{⊎-elim}
 use mathlib.Core.List.{List}
@@ -7,7 +7,7 @@ use mathlib.Core.Bool.{Bool, true, false, not, _&&_, _||_}
 use native.Mathlib.Omega.{arith}
 use lib.Dec.{eqb, ltb}
 use lib.ListN.{length, getD}
-use borrow.Author.Tests.{eqb-true, lt-leb}
+use borrow.Author.Tests.{eqb-true, lt-leb, ltb-false}
 use Rattle.error.specs.declared.ErrorCode.{ErrorCode}
 use Rattle.error.specs.declared.ErrorCode.the-variants.{InvalidCharacter, SyntaxError, InvalidSeparator, CommandHeaderError, HeaderSeparatorError}
 use Rattle.kind.specs.Class.{isWhiteSpace, inMnemonic}
@@ -30,11 +30,11 @@ use Rattle.tokenizer.specs.Step.{inHeader, inCommon, taken, refusal, end
 use Rattle.tokenizer.specs.declared.State.{State}
 use Rattle.tokenizer.specs.declared.Step.{Step}
 
--- What holds of every refusal, of every token and of every end that moves the place, holds of a step inside the text.
+-- What holds of every refusal, of every token that moves the place and of every end at the end of the text, holds of a step inside it.
 module _ (s : List ℕ) (st : State) (P : Step → Type 0)
     (refuses : (e : ErrorCode) → P (refusal s st e))
     (takes : (t : Token) (next : ℕ) (header common : Bool) → st .place < next → P (taken t next header common))
-    (ends : (next : ℕ) → st .place < next → P (ended st next)) where
+    (ends : (next : ℕ) → st .place < next → length s ≤ next → P (ended st next)) where
   abbrev at : ℕ
   at = st .place
 
@@ -50,7 +50,7 @@ module _ (s : List ℕ) (st : State) (P : Step → Type 0)
   module _ (next : ℕ) (h : at < next) where
     newline-moves : P (newlineBefore s st next)
     unfolding newlineBefore
-    newline-moves = by-test P (ltb next (length s)) (λ _. refuses SyntaxError) (λ _. ends next h)
+    newline-moves = by-test P (ltb next (length s)) (λ _. refuses SyntaxError) (λ e. ends next h (ltb-false next (length s) e))
 
     colon-moves : P (colonBefore s st next)
     unfolding colonBefore

@@ -61,6 +61,8 @@ pub record Claims : Type 0 where
       → (step s st) .state ≡ stateOf (length s) (inHeader st) (inCommon st)
   -- behind a refusal the answer is End
   pub after-refusal : (s : List ℕ) (st : State) (e : ErrorCode) → (step s st) .answer ≡ Refused e → (step s ((step s st) .state)) .answer ≡ End
+  -- behind End the answer is End again, and the state stays as it is
+  pub end-stays : (s : List ℕ) (st : State) → (step s st) .answer ≡ End → step s ((step s st) .state) ≡ record { answer = End; state = (step s st) .state }
   -- a text of n bytes gives n tokens and refusals at most, and then End, from any place and flags
   pub at-most : (s : List ℕ) (st : State) → (step s (after s (length s) st)) .answer ≡ End
   pub rows : Rows

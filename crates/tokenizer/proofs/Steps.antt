@@ -43,10 +43,6 @@ module _ (s : List ℕ) (st : State) where
     unfolding readAs
     form-refused′ common e q x ex = ex ∙ rw q
 
-  -- what was read, handed over from the function that read it
-  pub read-on′ : (common : Bool) (r q : Read) → r ≡ q → (x : Step) → x ≡ readAs s st common r → x ≡ readAs s st common q
-  read-on′ common r q e x ex = ex ∙ rw e
-
   pub newline-inside′ : (next : ℕ) → next < length s → (x : Step) → x ≡ refusal s st SyntaxError → x ≡ newlineBefore s st next
   unfolding newlineBefore
   newline-inside′ next h x ex = ex ∙ rw (lt-ltb next (length s) h)
@@ -55,7 +51,7 @@ module _ (s : List ℕ) (st : State) where
   unfolding newlineBefore ended
   newline-last′ next h = rw (le-ltb next (length s) h)
 
-pub ruleset parts = (needs, taken-is′, refusal-is′, form-token′, form-refused′, read-on′, newline-inside′, newline-last′)
+pub ruleset parts = (needs, taken-is′, refusal-is′, form-token′, form-refused′, newline-inside′, newline-last′)
 
 module _ (s : List ℕ) (at : ℕ) where
   pub colon-past′ : length s ≤ at → true ≡ followsColon s at
@@ -169,9 +165,9 @@ module _ (s : List ℕ) (st : State) where
     unfolding byKind
     blank′ e next en ex = ex ∙ sym (by-kind ∙ rw (e, en))
 
-    pub star′ : k ≡ 2 → x ≡ readAs s st true (mnemonic s (st .place)) → x ≡ step s st
+    pub star′ : k ≡ 2 → (r : Read) → r ≡ mnemonic s (st .place) → x ≡ readAs s st true r → x ≡ step s st
     unfolding byKind
-    star′ e ex = ex ∙ sym (by-kind ∙ rw e)
+    star′ e r er ex = ex ∙ sym (by-kind ∙ rw (e, er))
 
     pub colon′ : k ≡ 3 → x ≡ colonBefore s st (st .place + 1) → x ≡ step s st
     unfolding byKind

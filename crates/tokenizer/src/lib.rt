@@ -1,8 +1,7 @@
 // The token step. tokenizer/mod.rs of the original.
 ghost use mathlib.Core.Path.{_≡_};
 ghost use mathlib.Core.Bool.{true, false};
-ghost use Rattle.tokenizer.specs.Step.{stateOf, inCommon, ofMessage, ofData, taken, refusal, readAs, newlineBefore, followsColon, colonBefore, followsQuery, questionBefore, commaBefore, wordAt, outside, step};
-ghost use Rattle.data.specs.Word.{mnemonic};
+ghost use Rattle.tokenizer.specs.Step.{stateOf, ofMessage, ofData, taken, refusal, readAs, newlineBefore, followsColon, colonBefore, followsQuery, questionBefore, commaBefore, wordAt, outside, step};
 ghost use Rattle.data.specs.Decimal.{numericData};
 ghost use Rattle.data.specs.String.{stringData};
 ghost use Rattle.data.specs.Block.{hashData};
@@ -68,7 +67,7 @@ pub fn next(s: &[u8], state: State) -> Step
             let next = util::skip_ws(s, at);
             taken(Token::ProgramHeaderSeparator, next, false, state.in_common)
         }
-        kind::STAR => common(s, at, state),
+        kind::STAR => form(s, state, data::read_mnemonic(s, at), true),
         kind::COLON => colon(s, at + 1, state),
         kind::QUESTION => question(s, at + 1, state),
         kind::SEMICOLON => {
@@ -78,7 +77,12 @@ pub fn next(s: &[u8], state: State) -> Step
         kind::COMMA => comma(s, at + 1, state),
         kind::SMALL => word(s, at, state),
         kind::CAPITAL => word(s, at, state),
-        kind::PARENTHESIS => form(s, state, data::read_expression_data(s, at + 1)),
+        kind::PARENTHESIS => form(
+            s,
+            state,
+            data::read_expression_data(s, at + 1),
+            state.in_common,
+        ),
         kind::OTHER => refused(s, state, ErrorCode::SyntaxError),
         kind::UNDERSCORE => refused(s, state, ErrorCode::SyntaxError),
         kind::BEYOND => refused(s, state, ErrorCode::InvalidCharacter),
@@ -111,16 +115,6 @@ fn newline(s: &[u8], next: usize, state: State) -> Step
             in_header: state.in_header,
             in_common: state.in_common,
         },
-    }
-}
-
-// The header of a common command.
-fn common(s: &[u8], at: usize, state: State) -> Step
-    ensures { λ r. ⌜ r ≡ readAs (now (s .entry)) state true (mnemonic (now (s .entry)) at) ⌝ }
-{
-    match data::read_mnemonic(s, at) {
-        Read::Token { token, next } => taken(token, next, state.in_header, true),
-        Read::Refused(e) => refused(s, state, e),
     }
 }
 
@@ -208,9 +202,9 @@ fn word(s: &[u8], at: usize, state: State) -> Step
     ensures { λ r. ⌜ r ≡ wordAt (now (s .entry)) state at ⌝ }
 {
     if state.in_header {
-        return form(s, state, data::read_mnemonic(s, at));
+        return form(s, state, data::read_mnemonic(s, at), state.in_common);
     }
-    form(s, state, data::read_character_data(s, at))
+    form(s, state, data::read_character_data(s, at), state.in_common)
 }
 
 // A `#` before a place begins a block or a number in another radix.
@@ -220,7 +214,7 @@ fn hash(s: &[u8], at: usize, state: State) -> Step
     if state.in_header {
         return refused(s, state, ErrorCode::CommandHeaderError);
     }
-    form(s, state, data::read_hash_data(s, at))
+    form(s, state, data::read_hash_data(s, at), state.in_common)
 }
 
 // A quote before a place begins a string.
@@ -230,7 +224,12 @@ fn string(s: &[u8], at: usize, state: State, quote: u8) -> Step
     if state.in_header {
         return refused(s, state, ErrorCode::CommandHeaderError);
     }
-    form(s, state, data::read_string_data(s, at, quote))
+    form(
+        s,
+        state,
+        data::read_string_data(s, at, quote),
+        state.in_common,
+    )
 }
 
 // A digit, sign or point begins a number.
@@ -240,15 +239,15 @@ fn number(s: &[u8], at: usize, state: State) -> Step
     if state.in_header {
         return refused(s, state, ErrorCode::CommandHeaderError);
     }
-    form(s, state, data::read_numeric_data(s, at))
+    form(s, state, data::read_numeric_data(s, at), state.in_common)
 }
 
-// What was read as the answer of a step that leaves the flags as they were.
-fn form(s: &[u8], state: State, read: Read) -> Step
-    ensures { λ r. ⌜ r ≡ readAs (now (s .entry)) state (inCommon state) read ⌝ }
+// What was read as the answer of a step that leaves the header as it was.
+fn form(s: &[u8], state: State, read: Read, in_common: bool) -> Step
+    ensures { λ r. ⌜ r ≡ readAs (now (s .entry)) state in_common read ⌝ }
 {
     match read {
-        Read::Token { token, next } => taken(token, next, state.in_header, state.in_common),
+        Read::Token { token, next } => taken(token, next, state.in_header, in_common),
         Read::Refused(e) => refused(s, state, e),
     }
 }

@@ -23,8 +23,11 @@ skip-ws-requires c κs = search steps
 taken-requires : tie.Need-taken-requires
 taken-requires c κs = search steps
 
-common-requires : tie.Need-common-requires
-common-requires c κs = search steps
+read-mnemonic-requires : tie.Need-read-mnemonic-requires
+read-mnemonic-requires c κs = search steps
+
+form-requires : tie.Need-form-requires
+form-requires c κs = search steps
 
 add-colon : tie.Need-add-colon
 add-colon c = search steps
@@ -65,8 +68,8 @@ add-read-expression-data c = search steps
 read-expression-data-requires : tie.Need-read-expression-data-requires
 read-expression-data-requires c κs = search steps
 
-form-requires : tie.Need-form-requires
-form-requires c κs = search steps
+form-requires-2 : tie.Need-form-requires-2
+form-requires-2 c κs = search steps
 
 refused-requires : tie.Need-refused-requires
 refused-requires c κs = search steps
@@ -151,7 +154,8 @@ next-spec =
     newline-requires
     skip-ws-requires
     taken-requires
-    common-requires
+    read-mnemonic-requires
+    form-requires
     add-colon
     colon-requires
     add-question
@@ -165,7 +169,7 @@ next-spec =
     word-requires-2
     add-read-expression-data
     read-expression-data-requires
-    form-requires
+    form-requires-2
     refused-requires
     refused-requires-2
     refused-requires-3

@@ -1,5 +1,5 @@
 -- The claims.
-use Prim.Native.Nat.{ℕ, zero, suc, _+_, _≤_, _<_}
+use Prim.Native.Nat.{ℕ, _≤_, _<_}
 use mathlib.Core.Path.{_≡_, refl, sym, ap, _∙_}
 use mathlib.Core.Logic.{⊎-elim}
 use mathlib.Core.List.{List}
@@ -10,6 +10,8 @@ use Rattle.error.specs.declared.ErrorCode.{ErrorCode}
 use Rattle.kind.specs.Class.{isWhiteSpace, isCapital, isSmall, isDigit, isLetter, inMnemonic, isSign, isQuote}
 use Rattle.kind.specs.Kind.{kindOf}
 use Rattle.kind.proofs.Tests.{less-or-not}
+use Rattle.util.specs.Walk.{after}
+use Rattle.util.proofs.Walks.{arrives}
 use Rattle.util.specs.Run.{run, runEnd, signEnd, standsAt, every}
 use Rattle.number.specs.Digit.{digitOf, isDigitOf, valueOf}
 use Rattle.number.specs.Number.{digits, foundAt, unsignedOf, unsignedAt}
@@ -19,7 +21,7 @@ use Rattle.data.specs.Decimal.{wholeEnd, hasWhole, fractionEnd, mantissa, begin
 use Rattle.data.specs.Nondecimal.{nondecimalOf, nondecimalData}
 use Rattle.data.specs.Block.{payload, definite, indefinite, arbitraryData, hashBy, hashData}
 use Rattle.tokenizer.specs.Step.{stateOf, inHeader, inCommon, taken, refusal, ended, readAs, outside, byKind, step}
-use Rattle.tokenizer.specs.Claims.{after, Rows, Claims}
+use Rattle.tokenizer.specs.Claims.{stateBehind, Rows, Claims}
 use Rattle.tokenizer.specs.declared.State.{State}
 use Rattle.tokenizer.specs.declared.Answer.{Answer}
 use Rattle.tokenizer.specs.declared.Answer.the-variants.{Token, Refused, End}
@@ -100,15 +102,13 @@ end-stays s st q =
     P : Step → Type 0
     P x = x .answer ≡ End → length s ≤ x .state .place
 
--- n steps lead to the end of the text where no more than n bytes are left
-left : (s : List ℕ) (n : ℕ) (st : State) → length s ≤ st .place + n → length s ≤ (after s n st) .place
-left s zero st h = omega (arith, h)
-left s (suc n) st h =
-    left s n ((step s st) .state)
-    (⊎-elim (λ k. omega (arith, h, moves s st k)) (λ k. rw (rests s st k) (omega (arith, k))) (less-or-not (st .place) (length s)))
+stays : (s : List ℕ) (st : State) → length s ≤ st .place → length s ≤ (step s st) .state .place
+stays s st h = rw (rests s st h) h
 
-at-most : (s : List ℕ) (st : State) → (step s (after s (length s) st)) .answer ≡ End
-at-most s st = rw (rests s (after s (length s) st) (left s (length s) st (omega arith)))
+at-most : (s : List ℕ) (st : State) → (step s (after (stateBehind s) (length s) st)) .answer ≡ End
+at-most s st =
+    rw (rests s (after (stateBehind s) (length s) st)
+    (arrives (λ (x : State). x .place) (stateBehind s) (length s) (moves s) (stays s) (length s) st (omega arith)))
 
 pub claims : Claims
 claims = record { moves = moves; rests = rests; refusal-state = refusal-state; after-refusal = after-refusal; end-stays = end-stays; at-most = at-most; rows = rows }

@@ -1,5 +1,5 @@
 -- What is proved of the token step, besides the promises of the functions. The proofs are in proofs/Claims.
-use Prim.Native.Nat.{ℕ, zero, suc, _≤_, _<_}
+use Prim.Native.Nat.{ℕ, _≤_, _<_}
 use mathlib.Core.Path.{_≡_}
 use mathlib.Core.List.{List}
 use mathlib.Core.Bool.{true, false}
@@ -7,6 +7,7 @@ use lib.ListN.{length}
 use Rattle.error.specs.declared.ErrorCode.{ErrorCode}
 use Rattle.error.specs.declared.ErrorCode.the-variants.{ProgramMnemonicTooLong, NumericDataError, InvalidBlockData, SuffixNotAllowed, DataOutOfRange}
 use Rattle.kind.specs.Text.{ascii}
+use Rattle.util.specs.Walk.{after}
 use Rattle.token.specs.View.{viewOf}
 use Rattle.token.specs.declared.Token.the-variants.{ProgramMessageUnitSeparator, ProgramMnemonic, DecimalNumericProgramData, DecimalNumericSuffixProgramData, NonDecimalNumericProgramData, ArbitraryBlockData}
 use Rattle.tokenizer.specs.Step.{stateOf, inHeader, inCommon, ofMessage, ofData, step}
@@ -20,11 +21,6 @@ answerOf s st = (step s st) .answer
 
 abbrev pub stateBehind : List ℕ → State → State
 stateBehind s st = (step s st) .state
-
--- the state after so many steps
-abbrev pub after : List ℕ → ℕ → State → State
-after s zero st = st
-after s (suc n) st = after s n (stateBehind s st)
 
 -- Worked examples, numbered as in the table that is proved together; all but row 2 are of data alone.
 pub record Rows : Type 0 where
@@ -64,5 +60,5 @@ pub record Claims : Type 0 where
   -- behind End the answer is End again, and the state stays as it is
   pub end-stays : (s : List ℕ) (st : State) → (step s st) .answer ≡ End → step s ((step s st) .state) ≡ record { answer = End; state = (step s st) .state }
   -- a text of n bytes gives n tokens and refusals at most, and then End, from any place and flags
-  pub at-most : (s : List ℕ) (st : State) → (step s (after s (length s) st)) .answer ≡ End
+  pub at-most : (s : List ℕ) (st : State) → (step s (after (stateBehind s) (length s) st)) .answer ≡ End
   pub rows : Rows

@@ -1,6 +1,7 @@
 -- Laws that belong to no one function.
 pub mod Runs
 pub mod Every
+pub mod Walks
 pub mod Pairs
 pub mod Bytes
 pub mod Split

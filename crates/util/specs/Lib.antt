@@ -1,4 +1,5 @@
 pub mod Run
+pub mod Walk
 pub mod Mnemonic
 pub mod Spelling
 pub mod Claims

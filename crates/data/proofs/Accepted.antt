@@ -28,30 +28,15 @@ abbrev isToken : Read → Bool
 isToken (read.Token t next) = true
 isToken (read.Refused e) = false
 
-abbrev nextIn : Read → ℕ
+abbrev pub nextIn : Read → ℕ
 nextIn (read.Token t next) = next
 nextIn (read.Refused e) = 0
 
-abbrev tokenIn : Read → Token
+abbrev pub tokenIn : Read → Token
 tokenIn (read.Token t next) = t
 tokenIn (read.Refused e) = ProgramDataSeparator
 
--- the view of a token that has one view, and the suffix of a number
-abbrev pub viewIn : Token → View
-viewIn (ProgramMnemonic v) = v
-viewIn (CharacterProgramData v) = v
-viewIn (DecimalNumericProgramData v) = v
-viewIn (DecimalNumericSuffixProgramData v u) = v
-viewIn (StringProgramData v) = v
-viewIn (ArbitraryBlockData v) = v
-viewIn (ExpressionProgramData v) = v
-viewIn (NonDecimalNumericProgramData n) = viewOf 0 0
-viewIn HeaderMnemonicSeparator = viewOf 0 0
-viewIn HeaderQuerySuffix = viewOf 0 0
-viewIn ProgramMessageUnitSeparator = viewOf 0 0
-viewIn ProgramHeaderSeparator = viewOf 0 0
-viewIn ProgramDataSeparator = viewOf 0 0
-
+-- the suffix of a number
 abbrev pub suffixIn : Token → View
 suffixIn (DecimalNumericSuffixProgramData v u) = u
 suffixIn (ProgramMnemonic v) = v

@@ -15,6 +15,7 @@ use Rattle.kind.proofs.Tests.{either, and-left, and-right}
 use Rattle.util.specs.Run.{runEnd, every, standsAt}
 use Rattle.util.proofs.Runs.{run-from}
 use Rattle.number.specs.Digit.{valueOf}
+use Rattle.token.specs.Token.{viewIn}
 use Rattle.token.specs.View.{viewOf}
 use Rattle.token.specs.declared.View.{View}
 use Rattle.token.specs.declared.Token.the-variants.{StringProgramData, ArbitraryBlockData, ExpressionProgramData}
@@ -24,7 +25,7 @@ use Rattle.data.specs.Block.{payload, definite, indefinite, arbitraryDat
 use Rattle.data.specs.Expression.{inExpression, bracketed, expressionData}
 use Rattle.data.specs.Form.{Follows, Ended, StringBody, StringForm, BlockForm, ExpressionForm}
 use Rattle.data.specs.Form.StringBody.{empty, plain, doubled}
-use Rattle.data.proofs.Accepted.{viewIn, only-then, only-else, only-followed, ended, part-shown, part-run}
+use Rattle.data.proofs.Accepted.{only-then, only-else, only-followed, ended, part-shown, part-run}
 use Rattle.data.proofs.Strings.{plain as in-plain, doubled as in-doubled}
 use Rattle.data.proofs.Seams.{here-get, here-inside, here-stands, here-next, here-run, here-length, after-none, white-none, well-followed}
 

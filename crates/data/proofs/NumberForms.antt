@@ -15,15 +15,17 @@ use Rattle.kind.specs.Class.{isWhiteSpace, isSign, isDigit, isLetter, isCapital
 use Rattle.kind.proofs.Tests.{either, or-left, and-left, and-right, less-or-not}
 use Rattle.util.specs.Run.{runEnd, signEnd, every, standsAt}
 use Rattle.util.proofs.Runs.{run-from}
+use Rattle.token.specs.Token.{viewIn}
 use Rattle.token.specs.View.{viewOf, partOf}
 use Rattle.token.specs.declared.View.{View}
+use Rattle.token.specs.declared.Token.{Token}
 use Rattle.token.specs.declared.Token.the-variants.{DecimalNumericProgramData, DecimalNumericSuffixProgramData}
 use Rattle.data.specs.Follow.{token, followed}
-use Rattle.data.specs.Decimal.{wholeEnd, hasWhole, fractionEnd, hasFraction, mantissa, beginsExponent, exponent, withExponent, number, inSuffix, beginsSuffix, suffixed, suffixData, numericTo, numericData}
+use Rattle.data.specs.Decimal.{wholeEnd, hasWhole, fractionEnd, hasFraction, mantissa, beginsExponent, exponent, withExponent, number, numberTo, nrf, inSuffix, beginsSuffix, suffixed, suffixData, numericTo, numericData}
 use Rattle.data.specs.Form.{Whole, Fraction, Exponent, Number, Suffix, Ended}
 use Rattle.data.specs.declared.Place.{Place}
 use Rattle.data.specs.declared.Place.the-variants.{At, Nowhere}
-use Rattle.data.proofs.Accepted.{viewIn, suffixIn, hasSuffix, only-then, only-token, only-followed, ended, part, part-shown, part-joined, part-run, part-length, run-inside, run-most}
+use Rattle.data.proofs.Accepted.{nextIn, tokenIn, suffixIn, hasSuffix, only-then, only-token, only-followed, ended, part, part-shown, part-joined, part-run, part-length, run-inside, run-most}
 use Rattle.data.proofs.Decimals.{fraction-from}
 use Rattle.data.proofs.Progress.{run-moves, sign-from, whole-from}
 
@@ -71,7 +73,7 @@ module _ (s : List ℕ) (i : ℕ) where
           (ap (every isSign) f ∙ and-true (isSign (getD s i 0)) ∙ e, omega (arith, ap length f))
       go false e = (ap (every isSign) part-none, omega (arith, ap length part-none))
 
-  whole-form : Whole (part s i (wholeEnd s i))
+  pub whole-form : Whole (part s i (wholeEnd s i))
   unfolding wholeEnd
   whole-form =
       record {
@@ -83,7 +85,7 @@ module _ (s : List ℕ) (i : ℕ) where
         all-digit = part-run s isDigit (signEnd s i);
       }
 
-  whole-count : length (whole-form .digits) ≡ wholeEnd s i - signEnd s i
+  pub whole-count : length (whole-form .digits) ≡ wholeEnd s i - signEnd s i
   unfolding whole-form wholeEnd
   whole-count = part-length s isDigit (signEnd s i)
 
@@ -244,6 +246,16 @@ module _ (s : List ℕ) (at : ℕ) where
   shown end e =
       let f : Found s at end = found end e in
       rw (part-shown s at end (f .forward) (f .inside-text)) (f .form)
+
+  pub nrf-form : (t : Token) (next : ℕ) → nrf s at ≡ token t next → (t ≡ DecimalNumericProgramData (viewOf at next)) × Number (partOf s (viewOf at next))
+  unfolding nrf numberTo
+  nrf-form t next = go (number s at) refl
+    where
+      go : (m : Place) → number s at ≡ m → numberTo at m ≡ token t next → (t ≡ DecimalNumericProgramData (viewOf at next)) × Number (partOf s (viewOf at next))
+      go Nowhere e h = absurd (only-token t next NumericDataError h)
+      go (At end) e h =
+          let n : end ≡ next = ap nextIn h in
+          (rw (← n) (sym (ap tokenIn h)), rw (← n) (shown end e))
 
   -- a letter or `/` is first
   suffix-first : (j : ℕ) → beginsSuffix s j ≡ true → beginsSuffix (part s j (runEnd inSuffix s j)) 0 ≡ true

@@ -23,7 +23,7 @@ use Rattle.token.specs.declared.View.{View}
 use Rattle.token.specs.declared.Token.{Token}
 use Rattle.data.specs.Follow.{endsData, followed}
 use Rattle.data.specs.Word.{starEnd, mnemonic, characterData}
-use Rattle.data.specs.Decimal.{wholeEnd, hasWhole, fractionEnd, hasFraction, mantissa, beginsExponent, exponent, withExponent, number, inSuffix, beginsSuffix, suffixed, suffixData, numericTo, numericData}
+use Rattle.data.specs.Decimal.{wholeEnd, hasWhole, fractionEnd, hasFraction, mantissa, beginsExponent, exponent, withExponent, number, numberTo, nrf, inSuffix, beginsSuffix, suffixed, suffixData, numericTo, numericData}
 use Rattle.data.specs.Nondecimal.{nondecimalOf, nondecimalData}
 use Rattle.data.specs.String.{inString, stringEnd, closed, stringData}
 use Rattle.data.specs.Block.{payload, definite, indefinite, arbitraryData, hashBy, hashData}
@@ -114,9 +114,22 @@ module _ (s : List ℕ) (at : ℕ) where
   numeric-to (At end) h = suffix-behind _ h
   numeric-to Nowhere h = tt
 
+  number-ends : Ends at (number s at)
+  unfolding number
+  number-ends = with-exponent (mantissa s at) mantissa-ends
+
   pub numeric-behind : Behind at (numericData s at)
-  unfolding numericData number
-  numeric-behind = numeric-to (withExponent s (mantissa s at)) (with-exponent (mantissa s at) mantissa-ends)
+  unfolding numericData
+  numeric-behind = numeric-to (number s at) number-ends
+
+  number-to : (p : Place) → Ends at p → Behind at (numberTo at p)
+  unfolding numberTo
+  number-to (At end) h = h
+  number-to Nowhere h = tt
+
+  pub nrf-behind : Behind at (nrf s at)
+  unfolding nrf
+  nrf-behind = number-to (number s at) number-ends
 
   -- from here on the item itself begins at i
   module _ (i : ℕ) (h : at < i) where

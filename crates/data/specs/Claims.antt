@@ -11,15 +11,19 @@ use Rattle.util.specs.Run.{runEnd, every}
 use Rattle.number.specs.Digit.{valueOf}
 use Rattle.token.specs.View.{viewOf, partOf}
 use Rattle.token.specs.declared.View.{View}
+use Rattle.token.specs.declared.Token.{Token}
 use Rattle.token.specs.declared.Token.the-variants.{DecimalNumericProgramData, DecimalNumericSuffixProgramData, StringProgramData, ArbitraryBlockData, ExpressionProgramData}
 use Rattle.data.specs.Follow.{token}
-use Rattle.data.specs.Decimal.{numericData}
+use Rattle.data.specs.Decimal.{nrf, numericData}
 use Rattle.data.specs.String.{stringData}
 use Rattle.data.specs.Block.{arbitraryData}
 use Rattle.data.specs.Expression.{inExpression, expressionData}
 use Rattle.data.specs.Form.{Follows, Ended, Number, Suffix, StringBody, StringForm, BlockForm, ExpressionForm}
 
 pub record Claims : Type 0 where
+  -- a number alone that was accepted is the view from the place up to its end, and has the form
+  pub nrf-form : (s : List ℕ) (at : ℕ) (t : Token) (next : ℕ) → nrf s at ≡ token t next
+      → (t ≡ DecimalNumericProgramData (viewOf at next)) × Number (partOf s (viewOf at next))
   -- a number that was accepted begins at the place and has the form, and is followed as an item is
   pub number-form : (s : List ℕ) (at : ℕ) (v : View) (next : ℕ) → numericData s at ≡ token (DecimalNumericProgramData v) next
       → (v .start ≡ at) × Number (partOf s v) × Ended s (v .end) next

@@ -8,7 +8,7 @@ use borrow.Author.Needs.{needs}
 use borrow.Author.Tests.{le-leb, lt-leb}
 use Rattle.util.specs.Mnemonic.{matches}
 use Rattle.token.specs.View.{partOf}
-use Rattle.token.specs.Token.{matchesHeader}
+use Rattle.token.specs.Token.{viewIn, matchesHeader}
 use Rattle.token.specs.declared.View.{View}
 use Rattle.token.specs.declared.Token.{Token}
 
@@ -27,10 +27,16 @@ module _ (s : List ℕ) (v : View) where
     fitting′ k = rw (le-leb (v .end) (length s) h, le-leb (v .start) (v .end) k)
 
 -- told by the case that the token is
+by-case : {A : Type 0} (f : Token → A) (r : A) (t u : Token) → t ≡ u → r ≡ f u → r ≡ f t
+by-case f r t u e h = h ∙ sym (ap f e)
+
 pub told′ : (mnemonic s : List ℕ) (r : Bool) (t u : Token) → t ≡ u → r ≡ matchesHeader mnemonic s u → r ≡ matchesHeader mnemonic s t
-told′ mnemonic s r t u e h = h ∙ sym (ap (matchesHeader mnemonic s) e)
+told′ mnemonic s = by-case (matchesHeader mnemonic s)
+
+pub shown′ : (r : View) (t u : Token) → t ≡ u → r ≡ viewIn u → r ≡ viewIn t
+shown′ = by-case viewIn
 
 pub spelled′ : (mnemonic s w : List ℕ) (v : View) (r : Bool) → w ≡ partOf s v → r ≡ matches mnemonic w → r ≡ matches mnemonic (partOf s v)
 spelled′ mnemonic s w v r e h = rw (← e) h
 
-pub ruleset laws = (needs, beyond′, backward′, fitting′, told′, spelled′)
+pub ruleset laws = (needs, beyond′, backward′, fitting′, told′, shown′, spelled′)

@@ -1,7 +1,7 @@
 // The tokens of a program message. tokenizer/token.rs of the original, with places where that has slices.
 ghost use mathlib.Core.Path.{_≡_};
 ghost use Rattle.token.specs.View.{partOf};
-ghost use Rattle.token.specs.Token.{isData, matchesHeader};
+ghost use Rattle.token.specs.Token.{isData, viewIn, matchesHeader};
 
 // A part of the text: from its start up to its end.
 pub struct View {
@@ -64,6 +64,27 @@ impl Token {
             Token::StringProgramData(_) => true,
             Token::ArbitraryBlockData(_) => true,
             Token::ExpressionProgramData(_) => true,
+        }
+    }
+
+    // The part of the text that the token is, without a number's suffix; an empty one where it names none.
+    pub fn view(self) -> View
+        ensures { λ r. ⌜ r ≡ viewIn self ⌝ }
+    {
+        match self {
+            Token::ProgramMnemonic(view) => view,
+            Token::CharacterProgramData(view) => view,
+            Token::DecimalNumericProgramData(view) => view,
+            Token::DecimalNumericSuffixProgramData(view, _) => view,
+            Token::StringProgramData(view) => view,
+            Token::ArbitraryBlockData(view) => view,
+            Token::ExpressionProgramData(view) => view,
+            Token::HeaderMnemonicSeparator => View { start: 0, end: 0 },
+            Token::HeaderQuerySuffix => View { start: 0, end: 0 },
+            Token::ProgramMessageUnitSeparator => View { start: 0, end: 0 },
+            Token::ProgramHeaderSeparator => View { start: 0, end: 0 },
+            Token::ProgramDataSeparator => View { start: 0, end: 0 },
+            Token::NonDecimalNumericProgramData(_) => View { start: 0, end: 0 },
         }
     }
 

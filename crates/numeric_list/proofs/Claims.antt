@@ -1,0 +1,105 @@
+-- The claims.
+use Prim.Native.Nat.{ℕ, _≤_, _<_}
+use mathlib.Core.Path.{_≡_, refl, sym}
+use mathlib.Core.Logic.{⊎-elim}
+use mathlib.Core.List.{List}
+use native.Mathlib.Omega.{arith}
+use lib.ListN.{length}
+use Rattle.error.specs.declared.ErrorCode.{ErrorCode}
+use Rattle.error.specs.declared.ErrorCode.the-variants.{InvalidExpression}
+use Rattle.kind.specs.Class.{isDigit, isSign}
+use Rattle.kind.proofs.Tests.{less-or-not}
+use Rattle.util.specs.Walk.{after}
+use Rattle.util.proofs.Walks.{arrives}
+use Rattle.util.specs.Run.{run, runEnd, signEnd, standsAt}
+use Rattle.data.specs.Decimal.{wholeEnd, hasWhole, fractionEnd, hasFraction, mantissa, beginsExponent, exponent, withExponent, number, numberTo, nrf}
+use Rattle.numeric_list.specs.List.{stateOf, taken, refusal, rangeBy, rangeTo, itemBy, itemAt, begins, commaBefore, step}
+use Rattle.numeric_list.specs.Claims.{stateBehind, behindComma, Item, Rows, Claims}
+use Rattle.numeric_list.specs.declared.State.{State}
+use Rattle.numeric_list.specs.declared.Token as token
+use Rattle.numeric_list.specs.declared.Answer.{Answer}
+use Rattle.numeric_list.specs.declared.Answer.the-variants.{Token, Refused, End}
+use Rattle.numeric_list.specs.declared.Step.{Step}
+use Rattle.numeric_list.proofs.List.{end′}
+use Rattle.numeric_list.proofs.Progress.{each}
+
+rows : Rows
+unfolding step commaBefore begins itemAt itemBy rangeTo rangeBy taken refusal nrf numberTo number withExponent mantissa hasWhole wholeEnd fractionEnd hasFraction exponent beginsExponent run runEnd signEnd standsAt isDigit isSign
+rows =
+    record {
+      number-first = refl;
+      behind-number = refl;
+      range-second = refl;
+      minus-first = refl;
+      minus-second = refl;
+      plus-second = refl;
+      point-first = refl;
+      point-second = refl;
+      comma-last = refl;
+      comma-first = refl;
+      no-digit = refl;
+      behind-refusal = refl;
+    }
+
+-- what each answer tells of itself, and of the state behind it
+abbrev Tells : List ℕ → State → Answer → State → Type 0
+Tells s st (Token t) to = Item s (behindComma s (st .place)) t (to .place)
+Tells s st (Refused e) to = (e ≡ InvalidExpression) × (to ≡ stateOf (length s) (st .first))
+Tells s st End to = length s ≤ to .place
+
+module _ (s : List ℕ) (st : State) where
+  moves : st .place < length s → st .place < (step s st) .state .place
+  unfolding taken refusal
+  moves h = each s st (λ (x : Step). st .place < x .state .place) h (λ t next k i. k) h
+
+  rests : length s ≤ st .place → step s st ≡ record { answer = End; state = st }
+  rests h = sym (end′ s st h)
+
+  tells : Tells s st ((step s st) .answer) ((step s st) .state)
+  unfolding taken refusal
+  tells =
+      ⊎-elim
+      (λ h. each s st (λ (x : Step). Tells s st (x .answer) (x .state)) (refl, refl) (λ t next k i. i) h)
+      (λ h. rw (rests h) h)
+      (less-or-not (st .place) (length s))
+
+  module _ (e : ErrorCode) (q : (step s st) .answer ≡ Refused e) where
+    one-refusal : e ≡ InvalidExpression
+    one-refusal = (rw q at tells) .0
+
+    refusal-state : (step s st) .state ≡ stateOf (length s) (st .first)
+    refusal-state = (rw q at tells) .1
+
+  ends : (step s st) .answer ≡ End → length s ≤ (step s st) .state .place
+  ends q = rw q at tells
+
+  items-are-numbers : (t : token.Token) → (step s st) .answer ≡ Token t → Item s (behindComma s (st .place)) t ((step s st) .state .place)
+  items-are-numbers t q = rw q at tells
+
+  stays : length s ≤ st .place → length s ≤ (step s st) .state .place
+  stays h = rw (rests h) h
+
+after-refusal : (s : List ℕ) (st : State) (e : ErrorCode) → (step s st) .answer ≡ Refused e → (step s ((step s st) .state)) .answer ≡ End
+after-refusal s st e q = rw (refusal-state s st e q, rests s (stateOf (length s) (st .first)) (omega arith))
+
+end-stays : (s : List ℕ) (st : State) → (step s st) .answer ≡ End → step s ((step s st) .state) ≡ record { answer = End; state = (step s st) .state }
+end-stays s st q = rests s ((step s st) .state) (ends s st q)
+
+at-most : (s : List ℕ) (st : State) → (step s (after (stateBehind s) (length s) st)) .answer ≡ End
+at-most s st =
+    rw (rests s (after (stateBehind s) (length s) st)
+    (arrives (λ (x : State). x .place) (stateBehind s) (length s) (moves s) (stays s) (length s) st (omega arith)))
+
+pub claims : Claims
+claims =
+    record {
+      moves = moves;
+      rests = rests;
+      one-refusal = one-refusal;
+      refusal-state = refusal-state;
+      after-refusal = after-refusal;
+      end-stays = end-stays;
+      at-most = at-most;
+      items-are-numbers = items-are-numbers;
+      rows = rows;
+    }

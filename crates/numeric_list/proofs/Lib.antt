@@ -1,0 +1,4 @@
+-- Laws that belong to no one function.
+pub mod List
+pub mod Progress
+pub mod Claims

@@ -1,0 +1,78 @@
+-- What is proved of numeric lists, besides the promises of the functions. The proofs are in proofs/Claims.
+use Prim.Native.Nat.{ℕ, _+_, _≤_, _<_}
+use Prim.Native.Char.{code}
+use mathlib.Core.Path.{_≡_}
+use mathlib.Core.List.{List}
+use mathlib.Core.Bool.{true, false, cond}
+use lib.ListN.{length, getD}
+use Rattle.error.specs.declared.ErrorCode.{ErrorCode}
+use Rattle.error.specs.declared.ErrorCode.the-variants.{InvalidExpression}
+use Rattle.kind.specs.Text.{ascii}
+use Rattle.kind.specs.Class.{is}
+use Rattle.util.specs.Walk.{after}
+use Rattle.util.specs.Run.{standsAt}
+use Rattle.token.specs.View.{viewOf, partOf}
+use Rattle.data.specs.Form.{Number}
+use Rattle.numeric_list.specs.List.{stateOf, ofList, step}
+use Rattle.numeric_list.specs.declared.State.{State}
+use Rattle.numeric_list.specs.declared.Token as token
+use Rattle.numeric_list.specs.declared.Token.the-variants.{Numeric, NumericRange}
+use Rattle.numeric_list.specs.declared.Answer.{Answer}
+use Rattle.numeric_list.specs.declared.Answer.the-variants.{Token, Refused, End}
+
+-- the answer of one step, and the state behind it
+abbrev pub answerOf : List ℕ → State → Answer
+answerOf s st = (step s st) .answer
+
+abbrev pub stateBehind : List ℕ → State → State
+stateBehind s st = (step s st) .state
+
+-- the place behind a comma, where one stands
+abbrev pub behindComma : List ℕ → ℕ → ℕ
+behindComma s at = cond (is "," (getD s at 0)) (at + 1) at
+
+-- SCPI-99 8.3.3: an item from a place up to its end is a number of IEEE 488.2 7.7.2.2, or two of them with a colon between
+abbrev pub Item : List ℕ → ℕ → token.Token → ℕ → Type 0
+Item s at (Numeric v) end = (v ≡ viewOf at end) × Number (partOf s v)
+Item s at (NumericRange v u) end =
+    (v .start ≡ at) × Number (partOf s v) × (standsAt (code ":") s (v .end) ≡ true) × (u ≡ viewOf (v .end + 1) end) × Number (partOf s u)
+
+-- Worked examples, each from the front of its list.
+pub record Rows : Type 0 where
+  -- a number, and a range behind a comma
+  pub number-first : answerOf (ascii "1,2:3") ofList ≡ Token (Numeric (viewOf 0 1))
+  pub behind-number : stateBehind (ascii "1,2:3") ofList ≡ stateOf 1 false
+  pub range-second : answerOf (ascii "1,2:3") (stateBehind (ascii "1,2:3") ofList) ≡ Token (NumericRange (viewOf 2 3) (viewOf 4 5))
+  -- a minus needs no comma before it, and a plus does
+  pub minus-first : answerOf (ascii "1-2") ofList ≡ Token (Numeric (viewOf 0 1))
+  pub minus-second : answerOf (ascii "1-2") (stateBehind (ascii "1-2") ofList) ≡ Token (Numeric (viewOf 1 3))
+  pub plus-second : answerOf (ascii "1+2") (stateBehind (ascii "1+2") ofList) ≡ Refused InvalidExpression
+  -- a point begins no item without a comma before it
+  pub point-first : answerOf (ascii ".5") ofList ≡ Refused InvalidExpression
+  pub point-second : answerOf (ascii "1,.5") (stateBehind (ascii "1,.5") ofList) ≡ Token (Numeric (viewOf 2 4))
+  -- a comma stands between two items
+  pub comma-last : answerOf (ascii "1,") (stateBehind (ascii "1,") ofList) ≡ Refused InvalidExpression
+  pub comma-first : answerOf (ascii ",1") ofList ≡ Refused InvalidExpression
+  -- an exponent has a digit; a refusal leaves `first` as it was
+  pub no-digit : answerOf (ascii "1E") ofList ≡ Refused InvalidExpression
+  pub behind-refusal : stateBehind (ascii "1E") ofList ≡ stateOf 2 true
+
+pub record Claims : Type 0 where
+  -- inside the text every answer moves the place
+  pub moves : (s : List ℕ) (st : State) → st .place < length s → st .place < (step s st) .state .place
+  -- at and past the end of the text the answer is End, and the state stays as it is
+  pub rests : (s : List ℕ) (st : State) → length s ≤ st .place → step s st ≡ record { answer = End; state = st }
+  -- every refusal is -171
+  pub one-refusal : (s : List ℕ) (st : State) (e : ErrorCode) → (step s st) .answer ≡ Refused e → e ≡ InvalidExpression
+  -- a refusal sets the place to the end of the text, and leaves `first` as it was
+  pub refusal-state : (s : List ℕ) (st : State) (e : ErrorCode) → (step s st) .answer ≡ Refused e → (step s st) .state ≡ stateOf (length s) (st .first)
+  -- behind a refusal the answer is End
+  pub after-refusal : (s : List ℕ) (st : State) (e : ErrorCode) → (step s st) .answer ≡ Refused e → (step s ((step s st) .state)) .answer ≡ End
+  -- behind End the answer is End again, and the state stays as it is
+  pub end-stays : (s : List ℕ) (st : State) → (step s st) .answer ≡ End → step s ((step s st) .state) ≡ record { answer = End; state = (step s st) .state }
+  -- a list of n bytes gives n items and refusals at most, and then End, from any place and first
+  pub at-most : (s : List ℕ) (st : State) → (step s (after (stateBehind s) (length s) st)) .answer ≡ End
+  -- an accepted item begins at the place, or behind the comma there, ends where the next step begins, and its views are numbers
+  pub items-are-numbers : (s : List ℕ) (st : State) (t : token.Token) → (step s st) .answer ≡ Token t
+      → Item s (behindComma s (st .place)) t ((step s st) .state .place)
+  pub rows : Rows

@@ -1,0 +1,5 @@
+pub mod Spec
+pub mod Item
+pub mod Coordinate
+pub mod Form
+pub mod Claims

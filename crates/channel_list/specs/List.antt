@@ -1,0 +1,99 @@
+-- Channel lists, SCPI-99 8.3.2: what stands at a place of one, and where the next step begins.
+use Prim.Native.Nat.{ℕ, _+_}
+use Prim.Native.Char.{code}
+use mathlib.Core.List.{List}
+use mathlib.Core.Bool.{Bool, true, false, cond, not, _&&_, _||_}
+use lib.Dec.{eqb, leb}
+use lib.ListN.{length, getD}
+use Rattle.error.specs.declared.ErrorCode.{ErrorCode}
+use Rattle.error.specs.declared.ErrorCode.the-variants.{InvalidExpression}
+use Rattle.kind.specs.Class.{is, isDigit, isSign, isQuote}
+use Rattle.util.specs.Run.{standsAt}
+use Rattle.token.specs.View.{viewOf}
+use Rattle.data.specs.String.{stringEnd, stringData}
+use Rattle.data.specs.declared.Read.{Read}
+use Rattle.data.specs.declared.Read.the-variants as read
+use Rattle.channel_spec.specs.Spec.{specAt}
+use Rattle.channel_spec.specs.declared.ChannelSpec.{ChannelSpec}
+use Rattle.channel_list.specs.declared.State.{State}
+use Rattle.channel_list.specs.declared.Token.{Token}
+use Rattle.channel_list.specs.declared.Token.the-variants as item
+use Rattle.channel_list.specs.declared.Answer.the-variants as answer
+use Rattle.channel_list.specs.declared.Step.{Step}
+use Rattle.channel_list.specs.declared.Opened.{Opened}
+use Rattle.channel_list.specs.declared.Opened.the-variants as opens
+
+-- a place, and whether no item has been read yet
+abbrev pub stateOf : ℕ → Bool → State
+stateOf place first = record { place = place; first = first }
+
+-- SCPI-99 8.3.2: a channel list begins with `@`; any other text is not one
+unfoldable pub opened : List ℕ → Opened
+opened s = cond (standsAt (code "@") s 0) (opens.List (stateOf 1 true)) opens.NotOne
+
+-- an item, and the place behind it
+unfoldable pub taken : Token → ℕ → Step
+taken t next = record { answer = answer.Token t; state = stateOf next false }
+
+-- a refusal sets the place to the end of the text, and leaves `first` as it was
+unfoldable pub refusal : List ℕ → State → ErrorCode → Step
+refusal s st e = record { answer = answer.Refused e; state = stateOf (length s) (st .first) }
+
+-- the end leaves `first` as it was
+unfoldable pub ended : State → ℕ → Step
+ended st place = record { answer = answer.End; state = stateOf place (st .first) }
+
+-- a digit or a sign begins a spec; the end of a range may also begin with `!`
+unfoldable pub beginsSpec : ℕ → Bool
+beginsSpec b = isDigit b || isSign b
+
+-- SCPI-99 8.3.2: a range that begins with one spec ends with another, which is not empty and of the same dimension
+unfoldable pub rangeWith : List ℕ → State → ℕ → ChannelSpec → ChannelSpec → Step
+rangeWith s st at begin end =
+    cond (not (eqb (end .view .end) at) && eqb (begin .dimension) (end .dimension))
+    (taken (item.ChannelRange begin end) (end .view .end))
+    (refusal s st InvalidExpression)
+
+-- its end stands behind the colon, from a place on
+unfoldable pub rangeTo : List ℕ → State → ℕ → ChannelSpec → Step
+rangeTo s st at begin = rangeWith s st at begin (specAt s at)
+
+-- SCPI-99 8.3.2: a spec, and a range where a colon follows it
+unfoldable pub specsFrom : List ℕ → State → ChannelSpec → Step
+specsFrom s st begin =
+    cond (standsAt (code ":") s (begin .view .end))
+    (rangeTo s st (begin .view .end + 1) begin)
+    (taken (item.ChannelSpec begin) (begin .view .end))
+
+unfoldable pub specsAt : List ℕ → State → ℕ → Step
+specsAt s st at = specsFrom s st (specAt s at)
+
+-- what was read as a string from a place up to its closing quote, as a path name
+unfoldable pub pathTo : List ℕ → State → ℕ → ℕ → Read → Step
+pathTo s st at end (read.Token t next) = taken (item.PathName (viewOf at end)) (end + 1)
+pathTo s st at end (read.Refused e) = refusal s st e
+
+-- SCPI-99 8.3.2: a path name is a string (IEEE 488.2 7.7.5), from the place behind its opening quote; the place behind it is
+-- that behind the closing quote, before any white space
+unfoldable pub pathAt : ℕ → List ℕ → State → ℕ → Step
+pathAt q s st at = pathTo s st at (stringEnd q s at) (stringData q s at)
+
+-- an item, by the byte that it begins with
+unfoldable pub itemAt : List ℕ → State → ℕ → Step
+itemAt s st at =
+    cond (beginsSpec (getD s at 0)) (specsAt s st at)
+    (cond (isQuote (getD s at 0)) (pathAt (getD s at 0) s st (at + 1))
+    (refusal s st InvalidExpression))
+
+-- a comma before a place: it may not be the first of the list, and behind it comes the end or an item
+unfoldable pub commaBefore : List ℕ → State → ℕ → Step
+commaBefore s st at =
+    cond (st .first) (refusal s st InvalidExpression)
+    (cond (leb (length s) at) (ended st at) (itemAt s st at))
+
+-- the next step: End at or past the end of the text; a comma is passed, and else an item stands there
+unfoldable pub step : List ℕ → State → Step
+step s st =
+    cond (leb (length s) (st .place)) (ended st (st .place))
+    (cond (is "," (getD s (st .place) 0)) (commaBefore s st (st .place + 1))
+    (itemAt s st (st .place)))

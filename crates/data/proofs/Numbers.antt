@@ -16,8 +16,8 @@ use Rattle.util.specs.Run.{signEnd, every, standsAt}
 use Rattle.token.specs.View.{viewOf}
 use Rattle.token.specs.declared.Token.the-variants.{DecimalNumericProgramData}
 use Rattle.data.specs.Follow.{token}
-use Rattle.data.specs.Decimal.{wholeEnd, hasWhole, fractionEnd, hasFraction, mantissa, beginsExponent, exponent, withExponent, number, beginsSuffix, suffixData, numericTo, numericData}
-use Rattle.data.specs.Form.{Follows, Whole, Fraction, Exponent, Number}
+use Rattle.data.specs.Decimal.{wholeEnd, hasWhole, fractionEnd, hasFraction, mantissa, beginsExponent, exponent, withExponent, number, numberTo, nrf, beginsSuffix, suffixData, numericTo, numericData}
+use Rattle.data.specs.Form.{Follows, Whole, Fraction, Exponent, Number, Stops}
 use Rattle.data.specs.declared.Place.the-variants.{At}
 use Rattle.data.proofs.Seams.{here-get, here-stands, here-next, here-run, after-none, end-none, white-none, white-run, well-followed}
 
@@ -122,18 +122,7 @@ module _ (p : ℕ → Bool) (capital-e : p 69 ≡ false) (small-e : p 101 ≡ fa
       (λ e. ap (λ (x : List ℕ). p (getD (x ++ (w ++ y)) 0 0)) (dot-back b f e) ∙ q)
       (f .point-or-none)
 
-module _ (y : List ℕ) (f : Follows y) where
-  no-digit : isDigit (getD y 0 0) ≡ false
-  unfolding isDigit
-  no-digit = after-none isDigit (white-none isDigit refl refl refl refl refl) refl refl refl y f
-
-  no-dot : eqb (getD y 0 0) 46 ≡ false
-  no-dot = after-none (λ b. eqb b 46) (white-none (λ b. eqb b 46) refl refl refl refl refl) refl refl refl y f
-
-  no-e : beginsExponent (getD y 0 0) ≡ false
-  unfolding beginsExponent
-  no-e = after-none beginsExponent (white-none beginsExponent refl refl refl refl refl) refl refl refl y f
-
+module _ (y : List ℕ) (z : Stops y) where
   exponent-read : (s : List ℕ) (i : ℕ) (w : List ℕ) → drop i s ≡ w ++ y → (w ≡ []) ⊎ Exponent w → exponent s i ≡ At (i + length w)
   unfolding exponent
   exponent-read s i w h c =
@@ -141,18 +130,18 @@ module _ (y : List ℕ) (f : Follows y) where
       (λ (e : w ≡ []).
       let g : drop i s ≡ y = h ∙ ap (λ (x : List ℕ). x ++ y) e in
       let m : i ≡ i + length w = omega (arith, ap length e) in
-      rw (here-get s i y g, no-e) (ap At m))
+      rw (here-get s i y g, z .no-exponent) (ap At m))
       (λ (x : Exponent w).
       let g : drop i s ≡ x .letter ∷ (x .power ++ y) = h ∙ ap (λ (z : List ℕ). z ++ y) (x .parts) in
       let n : drop (i + 1) s ≡ x .power ++ y = here-next s i (x .letter ∷ []) (x .power ++ y) g in
-      let bare : length (x .whole .digits) ≡ 0 → isSign (getD y 0 0) ≡ false = λ z. absurd (omega (arith, z, x .some-digit)) in
+      let bare : length (x .whole .digits) ≡ 0 → isSign (getD y 0 0) ≡ false = λ k. absurd (omega (arith, k, x .some-digit)) in
       let m : i + 1 + length (x .power) ≡ i + length w = omega (arith, ap length (x .parts)) in
-      rw (here-get s i (x .letter ∷ (x .power ++ y)) g, x .is-e, whole-some s (i + 1) (x .power) y n (x .whole) no-digit bare (x .some-digit), whole-read s (i + 1) (x .power) y n (x .whole) no-digit bare)
+      rw (here-get s i (x .letter ∷ (x .power ++ y)) g, x .is-e, whole-some s (i + 1) (x .power) y n (x .whole) (z .no-digit) bare (x .some-digit), whole-read s (i + 1) (x .power) y n (x .whole) (z .no-digit) bare)
       (ap At m))
       c
 
--- a number, and what may follow it
-module _ (s : List ℕ) (at : ℕ) (t y : List ℕ) (h : drop at s ≡ t ++ y) (n : Number t) (f : Follows y) where
+-- a number, and what does not go on with it
+module _ (s : List ℕ) (at : ℕ) (t y : List ℕ) (h : drop at s ≡ t ++ y) (n : Number t) (z : Stops y) where
   front : drop at s ≡ n .front ++ (n .back ++ (n .power ++ y))
   front =
       h ∙ ap (λ (x : List ℕ). x ++ y) (n .parts) ∙ append-assoc (n .front) (n .back ++ n .power) y
@@ -166,23 +155,23 @@ module _ (s : List ℕ) (at : ℕ) (t y : List ℕ) (h : drop at s ≡ t ++ y) (
 
   stops : isDigit (getD (n .back ++ (n .power ++ y)) 0 0) ≡ false
   unfolding isDigit
-  stops = back-none isDigit refl refl y (no-digit y f) refl (n .back) (n .power) (n .fraction) (n .exponent)
+  stops = back-none isDigit refl refl y (z .no-digit) refl (n .back) (n .power) (n .fraction) (n .exponent)
 
   -- with no digit before the point, a point comes first
   bare : length (n .whole .digits) ≡ 0 → isSign (getD (n .back ++ (n .power ++ y)) 0 0) ≡ false
   unfolding isSign
-  bare z =
+  bare k =
       ⊎-elim
-      (λ e. absurd (omega (arith, z, n .some-digit, ap length (e .1))))
+      (λ e. absurd (omega (arith, k, n .some-digit, ap length (e .1))))
       (λ e. ap (λ (x : List ℕ). isSign (getD (x ++ (n .power ++ y)) 0 0)) (dot-back (n .back) (n .fraction) e))
       (n .fraction .point-or-none)
 
   fraction-stops : isDigit (getD (n .power ++ y) 0 0) ≡ false
   unfolding isDigit
-  fraction-stops = power-none isDigit refl refl y (no-digit y f) (n .power) (n .exponent)
+  fraction-stops = power-none isDigit refl refl y (z .no-digit) (n .power) (n .exponent)
 
   fraction-dot : eqb (getD (n .power ++ y) 0 0) 46 ≡ false
-  fraction-dot = power-none (λ b. eqb b 46) refl refl y (no-dot y f) (n .power) (n .exponent)
+  fraction-dot = power-none (λ b. eqb b 46) refl refl y (z .no-point) (n .power) (n .exponent)
 
   some : (hasWhole s at || hasFraction s (at + length (n .front))) ≡ true
   some =
@@ -205,8 +194,23 @@ module _ (s : List ℕ) (at : ℕ) (t y : List ℕ) (h : drop at s ≡ t ++ y) (
   unfolding number withExponent
   number-is =
       rw mantissa-read
-      (exponent-read y f s (at + length (n .front) + length (n .back)) (n .power) power (n .exponent) ∙ ap At (omega (arith, long′)))
+      (exponent-read y z s (at + length (n .front) + length (n .back)) (n .power) power (n .exponent) ∙ ap At (omega (arith, long′)))
 
+  pub nrf-read : nrf s at ≡ token (DecimalNumericProgramData (viewOf at (at + length t))) (at + length t)
+  unfolding nrf numberTo
+  nrf-read = rw number-is
+
+-- what may follow an item does not go on with a number
+follow-stops : (y : List ℕ) → Follows y → Stops y
+unfolding isDigit beginsExponent
+follow-stops y f =
+    record {
+      no-digit = after-none isDigit (white-none isDigit refl refl refl refl refl) refl refl refl y f;
+      no-point = after-none (λ b. eqb b 46) (white-none (λ b. eqb b 46) refl refl refl refl refl) refl refl refl y f;
+      no-exponent = after-none beginsExponent (white-none beginsExponent refl refl refl refl refl) refl refl refl y f;
+    }
+
+module _ (s : List ℕ) (at : ℕ) (t y : List ℕ) (h : drop at s ≡ t ++ y) (n : Number t) (f : Follows y) where
   -- no suffix begins before the end, `,` or `;`
   no-suffix : beginsSuffix s (at + length t + length (f .white)) ≡ false
   unfolding beginsSuffix isLetter isCapital isSmall
@@ -218,5 +222,5 @@ module _ (s : List ℕ) (at : ℕ) (t y : List ℕ) (h : drop at s ≡ t ++ y) (
   unfolding numericData numericTo suffixData
   number-read =
       let z = here-next s at t y h in
-      rw (number-is, white-run (DecimalNumericProgramData (viewOf at (at + length t))) InvalidSuffix s (at + length t) y z f, no-suffix)
+      rw (number-is s at t y h n (follow-stops y f), white-run (DecimalNumericProgramData (viewOf at (at + length t))) InvalidSuffix s (at + length t) y z f, no-suffix)
       (well-followed (DecimalNumericProgramData (viewOf at (at + length t))) InvalidSuffix s (at + length t) y z f)

@@ -18,9 +18,12 @@ use Rattle.data.specs.Decimal.{nrf, numericData}
 use Rattle.data.specs.String.{stringData}
 use Rattle.data.specs.Block.{arbitraryData}
 use Rattle.data.specs.Expression.{inExpression, expressionData}
-use Rattle.data.specs.Form.{Follows, Ended, Number, Suffix, StringBody, StringForm, BlockForm, ExpressionForm}
+use Rattle.data.specs.Form.{Follows, Ended, Number, Stops, Suffix, StringBody, StringForm, BlockForm, ExpressionForm}
 
 pub record Claims : Type 0 where
+  -- a text of the form is accepted as a number alone, up to what does not go on with it
+  pub nrf-read : (s : List ℕ) (at : ℕ) (t y : List ℕ) → drop at s ≡ t ++ y → Number t → Stops y
+      → nrf s at ≡ token (DecimalNumericProgramData (viewOf at (at + length t))) (at + length t)
   -- a number alone that was accepted is the view from the place up to its end, and has the form
   pub nrf-form : (s : List ℕ) (at : ℕ) (t : Token) (next : ℕ) → nrf s at ≡ token t next
       → (t ≡ DecimalNumericProgramData (viewOf at next)) × Number (partOf s (viewOf at next))

@@ -7,9 +7,9 @@ use mathlib.Core.Logic.{_⊎_}
 use mathlib.Core.List.{List, [], _∷_, _++_}
 use mathlib.Core.Bool.{true, false}
 use lib.Dec.{eqb}
-use lib.ListN.{length, take, drop}
+use lib.ListN.{length, getD, take, drop}
 use Rattle.kind.specs.Text.{ascii}
-use Rattle.kind.specs.Class.{isWhiteSpace, isSign, isDigit, isAscii}
+use Rattle.kind.specs.Class.{is, isWhiteSpace, isSign, isDigit, isAscii}
 use Rattle.util.specs.Run.{every, standsAt}
 use Rattle.number.specs.Digit.{valueOf}
 use Rattle.token.specs.View.{partOf}
@@ -67,6 +67,12 @@ pub record Number (t : List ℕ) : Type 0 where
   pub fraction : Fraction back
   pub some-digit : 0 < length (whole .digits) + length (fraction .digits)
   pub exponent : (power ≡ []) ⊎ Exponent power
+
+-- What does not go on with a number: no digit, point or E.
+pub record Stops (t : List ℕ) : Type 0 where
+  pub no-digit : isDigit (getD t 0 0) ≡ false
+  pub no-point : is "." (getD t 0 0) ≡ false
+  pub no-exponent : beginsExponent (getD t 0 0) ≡ false
 
 -- IEEE 488.2 7.7.3.2: letters, digits, `-`, `/` and `.`, a letter or `/` first, 12 at most.
 pub record Suffix (t : List ℕ) : Type 0 where

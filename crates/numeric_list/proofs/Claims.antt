@@ -1,10 +1,12 @@
 -- The claims.
-use Prim.Native.Nat.{ℕ, _≤_, _<_}
+use Prim.Native.Nat.{ℕ, _+_, _≤_, _<_}
 use mathlib.Core.Path.{_≡_, refl, sym}
 use mathlib.Core.Logic.{⊎-elim}
-use mathlib.Core.List.{List}
+use mathlib.Core.List.{List, [], _∷_, _++_}
+use mathlib.Core.Bool.{false, and-false}
 use native.Mathlib.Omega.{arith}
-use lib.ListN.{length}
+use lib.Dec.{eqb, ltb}
+use lib.ListN.{length, getD, drop}
 use Rattle.error.specs.declared.ErrorCode.{ErrorCode}
 use Rattle.error.specs.declared.ErrorCode.the-variants.{InvalidExpression}
 use Rattle.kind.specs.Class.{isDigit, isSign}
@@ -13,10 +15,15 @@ use Rattle.util.specs.Walk.{after}
 use Rattle.util.proofs.Walks.{arrives}
 use Rattle.util.specs.Run.{run, runEnd, signEnd, standsAt}
 use Rattle.data.specs.Decimal.{wholeEnd, hasWhole, fractionEnd, hasFraction, mantissa, beginsExponent, exponent, withExponent, number, numberTo, nrf}
+use Rattle.token.specs.View.{viewOf}
+use Rattle.data.specs.Form.{Number, Stops}
+use Rattle.data.proofs.Seams.{here-get, here-stands, here-next}
+use Rattle.data.proofs.Numbers.{nrf-read}
 use Rattle.numeric_list.specs.List.{stateOf, taken, refusal, rangeBy, rangeTo, itemBy, itemAt, begins, commaBefore, step}
 use Rattle.numeric_list.specs.Claims.{stateBehind, behindComma, Item, Rows, Claims}
 use Rattle.numeric_list.specs.declared.State.{State}
 use Rattle.numeric_list.specs.declared.Token as token
+use Rattle.numeric_list.specs.declared.Token.the-variants.{Numeric, NumericRange}
 use Rattle.numeric_list.specs.declared.Answer.{Answer}
 use Rattle.numeric_list.specs.declared.Answer.the-variants.{Token, Refused, End}
 use Rattle.numeric_list.specs.declared.Step.{Step}
@@ -30,12 +37,16 @@ rows =
       number-first = refl;
       behind-number = refl;
       range-second = refl;
+      two-digits = refl;
       minus-first = refl;
       minus-second = refl;
       plus-second = refl;
+      plus-behind-comma = refl;
+      plus-behind-colon = refl;
       point-first = refl;
       point-second = refl;
       comma-last = refl;
+      comma-twice = refl;
       comma-first = refl;
       no-digit = refl;
       behind-refusal = refl;
@@ -90,6 +101,23 @@ at-most s st =
     rw (rests s (after (stateBehind s) (length s) st)
     (arrives (λ (x : State). x .place) (stateBehind s) (length s) (moves s) (stays s) (length s) st (omega arith)))
 
+-- a number, and perhaps a colon and another
+module _ (s : List ℕ) (st : State) (at : ℕ) (t : List ℕ) where
+  number-read : (y : List ℕ) → drop at s ≡ t ++ y → Number t → Stops y → eqb (getD y 0 0) 58 ≡ false
+      → itemAt s st at ≡ taken (Numeric (viewOf at (at + length t))) (at + length t)
+  unfolding itemAt itemBy standsAt
+  number-read y h n z c =
+      rw (nrf-read s at t y h n z, here-get s (at + length t) y (here-next s at t y h), c, and-false (ltb (at + length t) (length s)))
+
+  range-read : (u y : List ℕ) → drop at s ≡ t ++ (58 ∷ (u ++ y)) → Number t → Number u → Stops y
+      → itemAt s st at ≡ taken (NumericRange (viewOf at (at + length t)) (viewOf (at + length t + 1) (at + length t + 1 + length u))) (at + length t + 1 + length u)
+  unfolding itemAt itemBy rangeTo rangeBy isDigit beginsExponent
+  range-read u y h n m z =
+      let k : drop (at + length t) s ≡ 58 ∷ (u ++ y) = here-next s at t (58 ∷ (u ++ y)) h in
+      let l : drop (at + length t + 1) s ≡ u ++ y = here-next s (at + length t) (58 ∷ []) (u ++ y) k in
+      let colon : Stops (58 ∷ (u ++ y)) = record { no-digit = refl; no-point = refl; no-exponent = refl } in
+      rw (nrf-read s at t (58 ∷ (u ++ y)) h n colon, here-stands s (at + length t) 58 (u ++ y) k, nrf-read s (at + length t + 1) u y l m z)
+
 pub claims : Claims
 claims =
     record {
@@ -101,5 +129,7 @@ claims =
       end-stays = end-stays;
       at-most = at-most;
       items-are-numbers = items-are-numbers;
+      number-read = number-read;
+      range-read = range-read;
       rows = rows;
     }

@@ -2,9 +2,9 @@
 use Prim.Native.Nat.{ℕ, _+_, _≤_, _<_}
 use Prim.Native.Char.{code}
 use mathlib.Core.Path.{_≡_}
-use mathlib.Core.List.{List}
+use mathlib.Core.List.{List, _∷_, _++_}
 use mathlib.Core.Bool.{true, false, cond}
-use lib.ListN.{length, getD}
+use lib.ListN.{length, getD, drop}
 use Rattle.error.specs.declared.ErrorCode.{ErrorCode}
 use Rattle.error.specs.declared.ErrorCode.the-variants.{InvalidExpression}
 use Rattle.kind.specs.Text.{ascii}
@@ -12,8 +12,8 @@ use Rattle.kind.specs.Class.{is}
 use Rattle.util.specs.Walk.{after}
 use Rattle.util.specs.Run.{standsAt}
 use Rattle.token.specs.View.{viewOf, partOf}
-use Rattle.data.specs.Form.{Number}
-use Rattle.numeric_list.specs.List.{stateOf, ofList, step}
+use Rattle.data.specs.Form.{Number, Stops}
+use Rattle.numeric_list.specs.List.{stateOf, ofList, taken, itemAt, step}
 use Rattle.numeric_list.specs.declared.State.{State}
 use Rattle.numeric_list.specs.declared.Token as token
 use Rattle.numeric_list.specs.declared.Token.the-variants.{Numeric, NumericRange}
@@ -43,15 +43,20 @@ pub record Rows : Type 0 where
   pub number-first : answerOf (ascii "1,2:3") ofList ≡ Token (Numeric (viewOf 0 1))
   pub behind-number : stateBehind (ascii "1,2:3") ofList ≡ stateOf 1 false
   pub range-second : answerOf (ascii "1,2:3") (stateBehind (ascii "1,2:3") ofList) ≡ Token (NumericRange (viewOf 2 3) (viewOf 4 5))
+  -- a number goes as far as it can
+  pub two-digits : answerOf (ascii "12") ofList ≡ Token (Numeric (viewOf 0 2))
   -- a minus needs no comma before it, and a plus does
   pub minus-first : answerOf (ascii "1-2") ofList ≡ Token (Numeric (viewOf 0 1))
   pub minus-second : answerOf (ascii "1-2") (stateBehind (ascii "1-2") ofList) ≡ Token (Numeric (viewOf 1 3))
   pub plus-second : answerOf (ascii "1+2") (stateBehind (ascii "1+2") ofList) ≡ Refused InvalidExpression
+  pub plus-behind-comma : answerOf (ascii "1,+2") (stateBehind (ascii "1,+2") ofList) ≡ Token (Numeric (viewOf 2 4))
+  pub plus-behind-colon : answerOf (ascii "1:+2") ofList ≡ Token (NumericRange (viewOf 0 1) (viewOf 2 4))
   -- a point begins no item without a comma before it
   pub point-first : answerOf (ascii ".5") ofList ≡ Refused InvalidExpression
   pub point-second : answerOf (ascii "1,.5") (stateBehind (ascii "1,.5") ofList) ≡ Token (Numeric (viewOf 2 4))
   -- a comma stands between two items
   pub comma-last : answerOf (ascii "1,") (stateBehind (ascii "1,") ofList) ≡ Refused InvalidExpression
+  pub comma-twice : answerOf (ascii "1,,2") (stateBehind (ascii "1,,2") ofList) ≡ Refused InvalidExpression
   pub comma-first : answerOf (ascii ",1") ofList ≡ Refused InvalidExpression
   -- an exponent has a digit; a refusal leaves `first` as it was
   pub no-digit : answerOf (ascii "1E") ofList ≡ Refused InvalidExpression
@@ -75,4 +80,10 @@ pub record Claims : Type 0 where
   -- an accepted item begins at the place, or behind the comma there, ends where the next step begins, and its views are numbers
   pub items-are-numbers : (s : List ℕ) (st : State) (t : token.Token) → (step s st) .answer ≡ Token t
       → Item s (behindComma s (st .place)) t ((step s st) .state .place)
+  -- and the other way round: a number at a place, with no colon behind it, is taken as an item up to its end
+  pub number-read : (s : List ℕ) (st : State) (at : ℕ) (t y : List ℕ) → drop at s ≡ t ++ y → Number t → Stops y → is ":" (getD y 0 0) ≡ false
+      → itemAt s st at ≡ taken (Numeric (viewOf at (at + length t))) (at + length t)
+  -- two with a colon between them are taken as a range
+  pub range-read : (s : List ℕ) (st : State) (at : ℕ) (t u y : List ℕ) → drop at s ≡ t ++ (code ":" ∷ (u ++ y)) → Number t → Number u → Stops y
+      → itemAt s st at ≡ taken (NumericRange (viewOf at (at + length t)) (viewOf (at + length t + 1) (at + length t + 1 + length u))) (at + length t + 1 + length u)
   pub rows : Rows

@@ -56,11 +56,12 @@ itemAt s st at = itemBy s st at (nrf s at)
 unfoldable pub begins : ℕ → Bool → Bool
 begins b first = isDigit b || (is "-" b || (is "+" b && first))
 
--- a comma before a place: it may not be the first of the list, and any number may stand behind it
+-- a comma before a place: it may not be the first of the list, and a number stands behind it, whatever that begins with
 unfoldable pub commaBefore : List ℕ → State → ℕ → Step
 commaBefore s st at = cond (st .first) (refusal s st) (itemAt s st at)
 
--- the next step: End at or past the end of the text; a comma and an item, or an item without one
+-- the next step: End at or past the end of the text; an item behind a comma, or one without; the standard has a comma between all
+-- items (docs/DIFFERENCES.md)
 unfoldable pub step : List ℕ → State → Step
 step s st =
     cond (leb (length s) (st .place)) (record { answer = answer.End; state = st })

@@ -21,7 +21,8 @@ use Rattle.number.specs.declared.Signed.{Signed}
 use Rattle.number.specs.declared.Signed.the-variants as signed
 use Rattle.channel_spec.specs.Spec.{bang, bangs, dimensionOf}
 use Rattle.channel_spec.specs.Item.{refusal, bangEnd, itemBy, itemOf, itemAt}
-use Rattle.channel_spec.specs.Coordinate.{integer, both, integers, written, lastOf, joinedBy, joinedAt, pairOf, tripleOf, firstOf, coordinateOf, noCoordinate}
+use Rattle.channel_spec.specs.Coordinate.{integer, both, integers, written, pairOf, tripleOf, firstOf, coordinateOf}
+use Rattle.channel_spec.specs.Reading.{lastOf, joinedBy, joinedAt, noCoordinate}
 use Rattle.channel_spec.specs.declared.Item.the-variants as item
 use Rattle.channel_spec.specs.declared.Coordinate.{Coordinate}
 use Rattle.channel_spec.specs.declared.Coordinate.the-variants as coordinate

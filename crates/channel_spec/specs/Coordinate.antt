@@ -1,6 +1,5 @@
 -- The coordinates of a channel, SCPI-99 8.3.2: signed integers joined by `!`.
-use Prim.Native.Nat.{ℕ, _+_}
-use Prim.Native.Char.{code}
+use Prim.Native.Nat.{ℕ}
 use mathlib.Core.List.{List, [], _∷_}
 use mathlib.Core.Option.{Option, none, some}
 use mathlib.Core.Bool.{Bool, true, false, cond, _||_}
@@ -9,7 +8,6 @@ use lib.IntN.{ℤ, pos, negsuc, natAbs}
 use lib.ListN.{length}
 use Rattle.error.specs.declared.ErrorCode.the-variants.{ExpressionError, InvalidExpression, IllegalParameterValue}
 use Rattle.kind.specs.Class.{is}
-use Rattle.util.specs.Run.{standsAt}
 use Rattle.number.specs.Number.{signedAt}
 use Rattle.number.specs.declared.Signed.{Signed}
 use Rattle.number.specs.declared.Signed.the-variants as signed
@@ -29,10 +27,6 @@ use Rattle.channel_spec.specs.declared.UnsignedPair.{UnsignedPair}
 use Rattle.channel_spec.specs.declared.UnsignedPair.the-variants as unsigned-pair
 use Rattle.channel_spec.specs.declared.UnsignedTriple.{UnsignedTriple}
 use Rattle.channel_spec.specs.declared.UnsignedTriple.the-variants as unsigned-triple
-use Rattle.channel_spec.specs.declared.Joined.{Joined}
-use Rattle.channel_spec.specs.declared.Joined.the-variants as joined
-use Rattle.channel_spec.specs.declared.Last.{Last}
-use Rattle.channel_spec.specs.declared.Last.the-variants as last
 
 -- a character put before the first of some texts
 unfoldable pub onto : ℕ → List (List ℕ) → List (List ℕ)
@@ -97,10 +91,6 @@ firstOf (item.Refused e) = coordinate.Refused e
 unfoldable pub coordinateOf : List ℕ → Coordinate
 coordinateOf t = cond (eqb (dimensionOf t) 1) (firstOf ((itemAt t 0) .item)) (coordinate.Refused InvalidExpression)
 
--- a spec that begins with no integer
-unfoldable pub noCoordinate : List ℕ → Coordinate
-noCoordinate t = cond (eqb (dimensionOf t) 1) (coordinate.Refused ExpressionError) (coordinate.Refused InvalidExpression)
-
 abbrev pub isNegative : ℤ → Bool
 isNegative (pos n) = false
 isNegative (negsuc n) = true
@@ -121,19 +111,3 @@ unsignedTripleOf (triple.Values a b c) =
     (unsigned-triple.Refused IllegalParameterValue)
     (unsigned-triple.Values (natAbs a) (natAbs b) (natAbs c))
 unsignedTripleOf (triple.Refused e) = unsigned-triple.Refused e
-
--- the integer that begins at a place, where a `!` follows it, and the place behind that
-unfoldable pub joinedBy : List ℕ → Signed → Joined
-joinedBy s (signed.Value v end) = cond (standsAt (code "!") s end) (joined.Value v (end + 1)) joined.Nothing
-joinedBy s signed.NoDigit = joined.Nothing
-joinedBy s signed.TooLarge = joined.Nothing
-
-unfoldable pub joinedAt : List ℕ → ℕ → Joined
-joinedAt s at = joinedBy s (signedAt s at)
-
--- one coordinate and no more
-unfoldable pub lastOf : Option (List ℤ) → Last
-lastOf (some (a ∷ [])) = last.Value a
-lastOf (some (a ∷ b ∷ vs)) = last.Nothing
-lastOf (some []) = last.Nothing
-lastOf none = last.Nothing

@@ -11,7 +11,7 @@ use Rattle.util.specs.Run.{standsAt}
 use Rattle.number.specs.Digit.{valueOf}
 use Rattle.data.specs.Form.{Whole}
 
--- a number below zero where its sign is a minus
+-- a number, negated where its sign is a minus
 unfoldable pub signedBy : List ℕ → ℕ → ℤ
 signedBy sign n = cond (standsAt (code "-") sign 0) (negℤ (pos n)) (pos n)
 

@@ -1,4 +1,4 @@
--- The items of a channel spec, one after the other: what the original calls its iterator.
+-- The items of a channel spec, one after the other. The text is the spec's own part of the list.
 use Prim.Native.Nat.{ℕ, _+_}
 use Prim.Native.Char.{code}
 use mathlib.Core.List.{List}

@@ -1,5 +1,6 @@
 pub mod Spec
 pub mod Item
 pub mod Coordinate
+pub mod Reading
 pub mod Form
 pub mod Claims

@@ -7,7 +7,7 @@ use Rattle.util.specs.Run.{runEnd}
 use Rattle.token.specs.View.{viewOf, partOf}
 use Rattle.channel_spec.specs.declared.ChannelSpec.{ChannelSpec}
 
--- SCPI-99 8.3.2: a channel spec is made of digits, signs and `!`
+-- what may stand in a channel spec: digits, signs and `!`, in any order; SCPI-99 8.3.2 has integers joined by `!` (docs/DIFFERENCES.md)
 unfoldable pub inSpec : ℕ → Bool
 inSpec b = isDigit b || (isSign b || is "!" b)
 

@@ -32,11 +32,11 @@ abs-fits : (n : ℤ) → mag n < 2 ^ 15 → Fits w64 (natAbs n)
 abs-fits (pos n) h = record { fits = omega arith }
 abs-fits (negsuc n) h = record { fits = omega arith }
 
-above : (n : ℤ) → ltZ n (pos 0) ≡ true → T (nonNeg (negℤ n))
+pub above : (n : ℤ) → ltZ n (pos 0) ≡ true → T (nonNeg (negℤ n))
 above (pos n) e = absurd (omega (arith, ltb-true n 0 e))
 above (negsuc n) e = tt
 
-not-below : (n : ℤ) → ltZ n (pos 0) ≡ false → T (nonNeg n)
+pub not-below : (n : ℤ) → ltZ n (pos 0) ≡ false → T (nonNeg n)
 not-below (pos n) e = tt
 not-below (negsuc n) e = absurd (let z : _≡_ {A = ℕ} 0 1 = cc in omega arith)
 

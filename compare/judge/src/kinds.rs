@@ -1,5 +1,7 @@
 //! The kinds of case. A kind is a file in `kinds/` and its name in the list at the end of this one.
 
+use crate::random::Random;
+
 pub type Cases = Box<dyn Iterator<Item = String> + Send>;
 
 /// The heading of an entry in docs/DIFFERENCES.md, and the answer that the port must give by it.
@@ -15,21 +17,33 @@ pub struct Kind {
     pub restart: Option<usize>,
 }
 
-/// Of N cases at most half are short ones, all there are, in order. The rest is halved: first random ones, then ones that
-/// are good or damaged.
-fn mixed<Case, Short: Iterator<Item = Case> + Send>(
+/// The request lines of N cases. At most half are short ones, all there are, in order. The rest is halved: first random
+/// ones, then ones that are good or damaged.
+fn mixed<Case: 'static, Short: Iterator<Item = Case> + Send + 'static>(
     n: usize,
+    seed: u64,
     short: fn() -> Short,
-    random: impl Iterator<Item = Case> + Send,
-    made: impl Iterator<Item = Case> + Send,
-) -> impl Iterator<Item = Case> + Send {
+    random: Maker<Case>,
+    made: Maker<Case>,
+    line: fn(Case) -> String,
+) -> Cases {
     let shorts = short().take(n / 2).count();
     let randoms = (n - shorts) / 2;
     let rest = n - shorts - randoms;
-    short()
+    let cases = short()
         .take(shorts)
-        .chain(random.take(randoms))
-        .chain(made.take(rest))
+        .chain(endless(seed, 1, random).take(randoms))
+        .chain(endless(seed, 2, made).take(rest));
+    Box::new(cases.map(line))
+}
+
+/// The i-th case, made of random numbers.
+type Maker<Case> = fn(random: &mut Random, i: usize) -> Case;
+
+/// Cases without end. Each part has random numbers of its own.
+fn endless<Case>(seed: u64, part: u64, make: Maker<Case>) -> impl Iterator<Item = Case> + Send {
+    let mut random = Random::new(seed, part);
+    (1..).map(move |i| make(&mut random, i))
 }
 
 macro_rules! kinds {
@@ -47,4 +61,6 @@ macro_rules! kinds {
 kinds! {
     names
     tokens
+    channels
+    numbers
 }

@@ -1,9 +1,13 @@
 // Answers requests: a line of standard input each, and for each a line of standard output.
+mod lists;
+
 ghost use Prim.Native.Nat.{_+_, _≤_};
 ghost use lib.ListN.{length};
 ghost use Rattle.io.specs.Counts.{Counts};
 use libc::STDIN_FILENO;
 use libc::STDOUT_FILENO;
+use lists::put_channels;
+use lists::put_numbers;
 use request::Text;
 use tokenizer::Answer;
 use tokenizer::Step;
@@ -167,9 +171,7 @@ fn respond(line: &[u8], text: &mut [u8], out: &mut [u8], sink: Sink) -> Sink
     }
     match line[at] {
         b'M' => names(line, at + 1, text, out, sink),
-        b'T' => tokens(line, at + 1, tokenizer::new(), text, out, sink),
-        b'D' => tokens(line, at + 1, tokenizer::new_params(), text, out, sink),
-        _ => refuse(out, sink),
+        asked => respond_text(asked, line, at + 1, text, out, sink),
     }
 }
 
@@ -204,11 +206,11 @@ fn name_answer(text: &[u8], n: usize, m: usize) -> [u8; 18]
     )
 }
 
-// T or D, and a text: the tokens of the text, from a state on.
-fn tokens(
+// The requests of one text, which is taken here for all of them.
+fn respond_text(
+    letter: u8,
     line: &[u8],
     at: usize,
-    start: tokenizer::State,
     text: &mut [u8],
     out: &mut [u8],
     sink: Sink,
@@ -224,7 +226,21 @@ fn tokens(
         return refuse(out, sink);
     }
     let end = taken.end;
-    put_steps(&text[..end], start, out, sink)
+    answer_text(letter, &text[..end], out, sink)
+}
+
+// T and D: the tokens of a message, and of data alone. C and N: the items of a channel list, and of a numeric list.
+fn answer_text(letter: u8, text: &[u8], out: &mut [u8], sink: Sink) -> Sink
+    requires { ⌜ sink .used ≤ length (now out) ⌝ }
+    ensures { λ r. ⌜ r .used ≤ length (now (out .exit)) ⌝ }
+{
+    match letter {
+        b'T' => put_steps(text, tokenizer::new(), out, sink),
+        b'D' => put_steps(text, tokenizer::new_params(), out, sink),
+        b'C' => put_channels(text, out, sink),
+        b'N' => put_numbers(text, out, sink),
+        _ => refuse(out, sink),
+    }
 }
 
 // Adds the part of each step, up to the end of the text or a refusal. A text of n bytes gives at most n tokens or

@@ -3,7 +3,10 @@
 use super::{mixed, Cases, Listed};
 use crate::random::Random;
 use crate::request::{parts, request};
-use crate::text::{damaged, random_text, recased, texts, ALL, LONGEST};
+use crate::text::{
+    begun, changed, faulty, list, number, random_behind, random_length, random_text, recased,
+    string, texts, value, zeros, Make, ALL,
+};
 
 pub const RESTART: Option<usize> = None;
 
@@ -56,10 +59,8 @@ fn refused(data: &[u8]) -> Option<(&'static str, i32)> {
 }
 
 pub fn cases(n: usize, seed: u64) -> Cases {
-    Box::new(
-        mixed(n, short_texts, random_texts(seed), spelled_texts(seed))
-            .map(|(letter, text)| request(letter, &[&text])),
-    )
+    let line = |(letter, text): Case| request(letter, &[&text]);
+    mixed(n, seed, short_texts, random_case, spelled_case, line)
 }
 
 type Case = (&'static str, Vec<u8>);
@@ -108,8 +109,7 @@ const SAMPLES: [(&str, &[u8]); 24] = [
     ("D", b"1\n;A\n"),
 ];
 
-/// All short texts, all that begin as a form of data does, and the samples with every byte put at every place, between two
-/// bytes and in the stead of one.
+/// All short texts, all that begin as a form of data does, and the samples with every byte put at every place.
 fn short_texts() -> impl Iterator<Item = Case> + Send {
     let all = (0..=4)
         .flat_map(|length| texts(BYTES, length))
@@ -117,22 +117,13 @@ fn short_texts() -> impl Iterator<Item = Case> + Send {
     let begun = BEGINNINGS
         .into_iter()
         .flat_map(|(letter, start, bytes, most)| {
-            (0..=most)
-                .flat_map(|length| texts(bytes, length))
-                .map(move |rest| (letter, [start, &rest].concat()))
+            begun(start, bytes, most).map(move |text| (letter, text))
         });
-    let changed = SAMPLES.into_iter().flat_map(|(letter, sample)| {
-        let places = (0..=sample.len()).flat_map(|i| [(i, i), (i, i + 1)]);
-        places.flat_map(move |(start, end)| {
-            let rest = sample.get(end..).unwrap_or_default();
-            ALL.map(|byte| (letter, [&sample[..start], &[byte], rest].concat()))
-        })
-    });
+    let changed = SAMPLES
+        .into_iter()
+        .flat_map(|(letter, sample)| changed(sample).map(move |text| (letter, text)));
     all.chain(begun).chain(changed)
 }
-
-/// One random text in so many has the greatest length.
-const LONGEST_ONE_IN: usize = 8_192;
 
 const STARTS: [(&str, &[u8]); 20] = [
     ("T", b""),
@@ -169,66 +160,31 @@ const POOLS: [&[u8]; 9] = [
     b"(@1!2:3,-+ )",
 ];
 
-/// Texts of lengths around every limit over few bytes, behind the start of a form.
-fn random_texts(seed: u64) -> impl Iterator<Item = Case> + Send {
-    let mut random = Random::new(seed, 1);
-    (1..).map(move |i| {
-        let random = &mut random;
-        let length = match i % LONGEST_ONE_IN {
-            0 => LONGEST,
-            _ if random.one_in(16) => random.pick(&[63, 64, 65, 255, 256, 257]),
-            _ if random.one_in(4) => random.pick(&[10, 11, 12, 13, 16, 17, 21, 22, 23]),
-            _ => random.below(10),
-        };
-        let ((letter, start), pool) = (random.pick(&STARTS), random.pick(&POOLS));
-        let mut text = [start, &random_text(random, pool, length)].concat();
-        text.truncate(LONGEST);
-        (letter, text)
-    })
+/// A text of a length around every limit over few bytes, behind the start of a form.
+fn random_case(random: &mut Random, i: usize) -> Case {
+    let length = random_length(random, i, &[10, 11, 12, 13, 16, 17, 21, 22, 23]);
+    let (letter, start) = random.pick(&STARTS);
+    (letter, random_behind(random, start, &POOLS, length))
 }
 
-/// Messages and data as the grammar has them. One text in three is so, but for what the parts below do seldom; the others
-/// have a fault or two. One in so many is repeated up to the greatest length.
-fn spelled_texts(seed: u64) -> impl Iterator<Item = Case> + Send {
-    let mut random = Random::new(seed, 2);
-    (1..).map(move |i| {
-        let random = &mut random;
-        let (letter, mut text, joint) = match random.below(2) {
-            0 => ("T", message(random), b';'),
-            _ => ("D", data(random), b','),
-        };
-        match random.below(8) {
-            0 => text.push(b'\n'),
-            1 => text.push(b';'),
-            2 if letter == "D" => text.extend([b";", &message(random)[..]].concat()),
-            3 => {
-                text.push(random.pick(b", "));
-                text.extend(endless_block(random));
-            }
-            _ => {}
+/// A message or data as the grammar has them. One text in three is so, but for what the parts below do seldom; the others
+/// have a fault or two.
+fn spelled_case(random: &mut Random, i: usize) -> Case {
+    let (letter, mut text, joint) = match random.below(2) {
+        0 => ("T", message(random), b';'),
+        _ => ("D", data(random), b','),
+    };
+    match random.below(8) {
+        0 => text.push(b'\n'),
+        1 => text.push(b';'),
+        2 if letter == "D" => text.extend([b";", &message(random)[..]].concat()),
+        3 => {
+            text.push(random.pick(b", "));
+            text.extend(endless_block(random));
         }
-        for _ in 0..random.below(3) {
-            text = damaged(random, BYTES, text);
-        }
-        if i % LONGEST_ONE_IN == 0 {
-            text.push(joint);
-            text = text.repeat(LONGEST / text.len() + 1);
-        }
-        text.truncate(LONGEST);
-        (letter, text)
-    })
-}
-
-type Make = fn(&mut Random) -> Vec<u8>;
-
-/// From one to that many parts, with something between them.
-fn list(random: &mut Random, most: usize, part: Make, between: Make) -> Vec<u8> {
-    let mut text = part(random);
-    for _ in 0..random.below(most) {
-        text.extend(between(random));
-        text.extend(part(random));
+        _ => {}
     }
-    text
+    (letter, faulty(random, i, BYTES, joint, text))
 }
 
 fn message(random: &mut Random) -> Vec<u8> {
@@ -295,16 +251,6 @@ fn behind(random: &mut Random, first: &[u8], then: &[u8]) -> Vec<u8> {
     .concat()
 }
 
-fn number(random: &mut Random) -> Vec<u8> {
-    let mut text = random.pick::<&[u8]>(&[b"", b"", b"+", b"-"]).to_vec();
-    text.extend(random.pick::<&[u8]>(&[b"0", b"1", b"19", b"007", b"1.", b"0.5", b".5", b".05"]));
-    if random.one_in(3) {
-        text.extend(random.pick::<&[u8]>(&[b"E", b"e", b"E+", b"e-"]));
-        text.extend(random.pick::<&[u8]>(&[b"0", b"5", b"09", b"400"]));
-    }
-    text
-}
-
 fn suffixed(random: &mut Random) -> Vec<u8> {
     [
         number(random),
@@ -316,17 +262,8 @@ fn suffixed(random: &mut Random) -> Vec<u8> {
 
 /// A value up to beyond 2^64, next to a power of two or anywhere, perhaps with zeros before it.
 fn radix(random: &mut Random) -> Vec<u8> {
-    let size = random.below(70);
-    let value = match random.below(2) {
-        0 => (1 << size) + random.below(3) as u128 - 1,
-        _ => (u128::from(random.next()) << 64 | u128::from(random.next())) >> (127 - size),
-    };
-    let zeros = match random.below(64) {
-        0 => random.pick(&[255, 256, 4_000]),
-        1..=8 => random.pick(&[1, 2, 30]),
-        _ => 0,
-    };
-    let zeros = "0".repeat(zeros);
+    let power = random.below(70);
+    let (value, zeros) = (value(random, power), zeros(random));
     let text = match random.below(3) {
         0 => format!("#H{zeros}{value:x}"),
         1 => format!("#Q{zeros}{value:o}"),
@@ -358,24 +295,6 @@ fn endless_block(random: &mut Random) -> Vec<u8> {
     let mut text = [b"#0", &random_text(random, BYTES, length)[..]].concat();
     if !random.one_in(8) {
         text.push(b'\n');
-    }
-    text
-}
-
-/// Seldom a byte from 128 up is among it, or its closing quote is missing.
-fn string(random: &mut Random) -> Vec<u8> {
-    let (quote, other) = random.pick(&[(b'"', b'\''), (b'\'', b'"')]);
-    let mut text = vec![quote];
-    for _ in 0..random.below(6) {
-        match random.below(8) {
-            0 => text.extend([quote, quote]),
-            1 => text.push(other),
-            2 if random.one_in(8) => text.push(random.pick(b"\x80\xff")),
-            _ => text.push(random.pick(b"aZ0 ,;:#()\n\x00\x7f")),
-        }
-    }
-    if !random.one_in(32) {
-        text.push(quote);
     }
     text
 }

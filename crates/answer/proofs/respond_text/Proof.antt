@@ -1,6 +1,6 @@
 use Rattle.answer.proofs.Laws.{laws}
-use Rattle.answer.proofs.tokens.Statement.{statement}
-use Rattle.answer.proofs.tokens.Tie as tie
+use Rattle.answer.proofs.respond_text.Statement.{statement}
+use Rattle.answer.proofs.respond_text.Tie as tie
 
 take-text-requires : tie.Need-take-text-requires
 take-text-requires c κs = search laws
@@ -32,14 +32,14 @@ same-length-4 c = search laws
 returns-2 : tie.Need-returns-2
 returns-2 c = search laws
 
-slice-reshare-prefix-put-steps : tie.Need-slice-reshare-prefix-put-steps
-slice-reshare-prefix-put-steps c = search laws
+slice-reshare-prefix-answer-text : tie.Need-slice-reshare-prefix-answer-text
+slice-reshare-prefix-answer-text c = search laws
 
-slice-aggregate-put-steps : tie.Need-slice-aggregate-put-steps
-slice-aggregate-put-steps c = search laws
+slice-aggregate-answer-text : tie.Need-slice-aggregate-answer-text
+slice-aggregate-answer-text c = search laws
 
-put-steps-requires : tie.Need-put-steps-requires
-put-steps-requires c κs = search laws
+answer-text-requires : tie.Need-answer-text-requires
+answer-text-requires c κs = search laws
 
 same-length-5 : tie.Need-same-length-5
 same-length-5 c = search laws
@@ -50,8 +50,8 @@ same-length-6 c = search laws
 returns-3 : tie.Need-returns-3
 returns-3 c = search laws
 
-pub tokens-spec : {M : Type 1} → statement M
-tokens-spec =
+pub respond-text-spec : {M : Type 1} → statement M
+respond-text-spec =
     tie.close
     (tie.spec
     take-text-requires
@@ -64,9 +64,9 @@ tokens-spec =
     same-length-3
     same-length-4
     returns-2
-    slice-reshare-prefix-put-steps
-    slice-aggregate-put-steps
-    put-steps-requires
+    slice-reshare-prefix-answer-text
+    slice-aggregate-answer-text
+    answer-text-requires
     same-length-5
     same-length-6
     returns-3)

@@ -1,0 +1,382 @@
+// The answers of the list readers as text.
+ghost use Prim.Native.Nat.{_≤_};
+ghost use lib.ListN.{length};
+use crate::Sink;
+use crate::put;
+use channel_list::Opened;
+use channel_spec::ChannelSpec;
+use channel_spec::Coordinate;
+use channel_spec::Item;
+use channel_spec::Pair;
+use channel_spec::Triple;
+use channel_spec::UnsignedCoordinate;
+use channel_spec::UnsignedPair;
+use channel_spec::UnsignedTriple;
+use error::ErrorCode;
+use token::View;
+
+// The items of a channel list; `none` for a text that is not one.
+pub(crate) fn put_channels(text: &[u8], out: &mut [u8], sink: Sink) -> Sink
+    requires { ⌜ sink .used ≤ length (now out) ⌝ }
+    ensures { λ r. ⌜ r .used ≤ length (now (out .exit)) ⌝ }
+{
+    match channel_list::new(text) {
+        Opened::List(front) => put_channels_from(text, front, out, sink),
+        Opened::NotOne => put(out, sink, b"none\n"),
+    }
+}
+
+// Adds each item, up to the end of the list or a refusal. A text of n bytes gives at most n items before that, so
+// n + 1 turns are enough.
+fn put_channels_from(text: &[u8], front: channel_list::State, out: &mut [u8], sink: Sink) -> Sink
+    requires { ⌜ sink .used ≤ length (now out) ⌝ }
+    ensures { λ r. ⌜ r .used ≤ length (now (out .exit)) ⌝ }
+{
+    let mut state = front;
+    let mut last = sink;
+    let mut turn = 0;
+    while turn <= text.len() {
+        let step = channel_list::next(text, state);
+        let answer = step.answer;
+        state = step.state;
+        match answer {
+            channel_list::Answer::Token(token) => {
+                let shown = put_channel(out, last, text, token);
+                last = put_place(out, shown, state.place);
+                turn += 1;
+            }
+            channel_list::Answer::End => return put_end(out, last, state.place),
+            channel_list::Answer::Refused(e) => return put_refused(out, last, e),
+        }
+    }
+    last
+}
+
+// The items of a numeric list, in as many turns.
+pub(crate) fn put_numbers(text: &[u8], out: &mut [u8], sink: Sink) -> Sink
+    requires { ⌜ sink .used ≤ length (now out) ⌝ }
+    ensures { λ r. ⌜ r .used ≤ length (now (out .exit)) ⌝ }
+{
+    let mut state = numeric_list::new();
+    let mut last = sink;
+    let mut turn = 0;
+    while turn <= text.len() {
+        let step = numeric_list::next(text, state);
+        let answer = step.answer;
+        state = step.state;
+        match answer {
+            numeric_list::Answer::Token(token) => {
+                let shown = put_numeric(out, last, token);
+                last = put_place(out, shown, state.place);
+                turn += 1;
+            }
+            numeric_list::Answer::End => return put(out, last, b"end\n"),
+            numeric_list::Answer::Refused(e) => return put_refused(out, last, e),
+        }
+    }
+    last
+}
+
+// An item of a channel list.
+fn put_channel(out: &mut [u8], sink: Sink, text: &[u8], token: channel_list::Token) -> Sink
+    requires { ⌜ sink .used ≤ length (now out) ⌝ }
+    ensures { λ r. ⌜ r .used ≤ length (now (out .exit)) ⌝ }
+{
+    match token {
+        channel_list::Token::ChannelSpec(spec) => put_spec(out, sink, b"spec ", text, spec),
+        channel_list::Token::ChannelRange(begin, end) => {
+            let shown = put_spec(out, sink, b"range ", text, begin);
+            put_spec(out, shown, b" to ", text, end)
+        }
+        channel_list::Token::PathName(view) => put_view(out, sink, b"path ", view),
+    }
+}
+
+// An item of a numeric list.
+fn put_numeric(out: &mut [u8], sink: Sink, token: numeric_list::Token) -> Sink
+    requires { ⌜ sink .used ≤ length (now out) ⌝ }
+    ensures { λ r. ⌜ r .used ≤ length (now (out .exit)) ⌝ }
+{
+    match token {
+        numeric_list::Token::Numeric(view) => put_view(out, sink, b"number ", view),
+        numeric_list::Token::NumericRange(begin, end) => {
+            let shown = put_view(out, sink, b"range number ", begin);
+            put_view(out, shown, b" to number ", end)
+        }
+    }
+}
+
+// The place behind an item, and what stands before the next part.
+fn put_place(out: &mut [u8], sink: Sink, place: usize) -> Sink
+    requires { ⌜ sink .used ≤ length (now out) ⌝ }
+    ensures { λ r. ⌜ r .used ≤ length (now (out .exit)) ⌝ }
+{
+    let shown = put_number(out, sink, b" @", place as u64);
+    put(out, shown, b" | ")
+}
+
+// The last part, at the end of a channel list.
+fn put_end(out: &mut [u8], sink: Sink, place: usize) -> Sink
+    requires { ⌜ sink .used ≤ length (now out) ⌝ }
+    ensures { λ r. ⌜ r .used ≤ length (now (out .exit)) ⌝ }
+{
+    let shown = put_number(out, sink, b"end @", place as u64);
+    put(out, shown, b"\n")
+}
+
+// The last part, at a refusal.
+fn put_refused(out: &mut [u8], sink: Sink, e: ErrorCode) -> Sink
+    requires { ⌜ sink .used ≤ length (now out) ⌝ }
+    ensures { λ r. ⌜ r .used ≤ length (now (out .exit)) ⌝ }
+{
+    let shown = put_code(out, sink, b"refused ", e);
+    put(out, shown, b"\n")
+}
+
+// A word, and all that is said of a spec: `(start,len,dim) items [a,b,..] i X u X ii X uu X iii X uuu X`.
+fn put_spec(out: &mut [u8], sink: Sink, word: &[u8], text: &[u8], spec: ChannelSpec) -> Sink
+    requires { ⌜ sink .used ≤ length (now out) ⌝ }
+    ensures { λ r. ⌜ r .used ≤ length (now (out .exit)) ⌝ }
+{
+    let part = token::part(text, spec.view);
+    let begun = put(out, sink, word);
+    let shape = put_shape(out, begun, spec.view.start, part.len(), spec.dimension);
+    let items = put_items(out, shape, part);
+    put_coordinates(out, items, part)
+}
+
+// `(start,len,dim)`
+fn put_shape(out: &mut [u8], sink: Sink, start: usize, len: usize, dimension: usize) -> Sink
+    requires { ⌜ sink .used ≤ length (now out) ⌝ }
+    ensures { λ r. ⌜ r .used ≤ length (now (out .exit)) ⌝ }
+{
+    let first = put_number(out, sink, b"(", start as u64);
+    let second = put_number(out, first, b",", len as u64);
+    let third = put_number(out, second, b",", dimension as u64);
+    put(out, third, b")")
+}
+
+// ` items [a,b,..]`: the walk of a spec, up to its end or a refusal. It takes n + 1 turns, as a list does.
+fn put_items(out: &mut [u8], sink: Sink, part: &[u8]) -> Sink
+    requires { ⌜ sink .used ≤ length (now out) ⌝ }
+    ensures { λ r. ⌜ r .used ≤ length (now (out .exit)) ⌝ }
+{
+    let mut last = put(out, sink, b" items [");
+    let mut place = 0;
+    let mut turn = 0;
+    while turn <= part.len() {
+        let step = channel_spec::next(part, place);
+        let item = step.item;
+        match item {
+            Item::Value(n) => {
+                last = put_item(out, last, place, n);
+                place = step.place;
+                turn += 1;
+            }
+            Item::End => return put(out, last, b"]"),
+            Item::Refused(e) => return put_last_item(out, last, place, e),
+        }
+    }
+    last
+}
+
+// An item of a walk.
+fn put_item(out: &mut [u8], sink: Sink, place: usize, n: i64) -> Sink
+    requires { ⌜ sink .used ≤ length (now out) ⌝ }
+    ensures { λ r. ⌜ r .used ≤ length (now (out .exit)) ⌝ }
+{
+    let comma = put_comma(out, sink, place);
+    put_signed(out, comma, b"", n)
+}
+
+// A refusal that ends a walk.
+fn put_last_item(out: &mut [u8], sink: Sink, place: usize, e: ErrorCode) -> Sink
+    requires { ⌜ sink .used ≤ length (now out) ⌝ }
+    ensures { λ r. ⌜ r .used ≤ length (now (out .exit)) ⌝ }
+{
+    let comma = put_comma(out, sink, place);
+    let shown = put_code(out, comma, b"!", e);
+    put(out, shown, b"]")
+}
+
+// A comma, but none before the first item of a walk.
+fn put_comma(out: &mut [u8], sink: Sink, place: usize) -> Sink
+    requires { ⌜ sink .used ≤ length (now out) ⌝ }
+    ensures { λ r. ⌜ r .used ≤ length (now (out .exit)) ⌝ }
+{
+    if place == 0 {
+        return sink;
+    }
+    put(out, sink, b",")
+}
+
+fn put_coordinates(out: &mut [u8], sink: Sink, part: &[u8]) -> Sink
+    requires { ⌜ sink .used ≤ length (now out) ⌝ }
+    ensures { λ r. ⌜ r .used ≤ length (now (out .exit)) ⌝ }
+{
+    let one = put_as_one(out, sink, part);
+    let two = put_as_two(out, one, part);
+    put_as_three(out, two, part)
+}
+
+// A spec taken as one coordinate.
+fn put_as_one(out: &mut [u8], sink: Sink, part: &[u8]) -> Sink
+    requires { ⌜ sink .used ≤ length (now out) ⌝ }
+    ensures { λ r. ⌜ r .used ≤ length (now (out .exit)) ⌝ }
+{
+    let i = put(out, sink, b" i ");
+    let signed = put_coordinate(out, i, channel_spec::read_coordinate(part));
+    let u = put(out, signed, b" u ");
+    put_unsigned_coordinate(out, u, channel_spec::read_unsigned_coordinate(part))
+}
+
+// A spec taken as two coordinates.
+fn put_as_two(out: &mut [u8], sink: Sink, part: &[u8]) -> Sink
+    requires { ⌜ sink .used ≤ length (now out) ⌝ }
+    ensures { λ r. ⌜ r .used ≤ length (now (out .exit)) ⌝ }
+{
+    let ii = put(out, sink, b" ii ");
+    let signed = put_pair(out, ii, channel_spec::read_pair(part));
+    let uu = put(out, signed, b" uu ");
+    put_unsigned_pair(out, uu, channel_spec::read_unsigned_pair(part))
+}
+
+// A spec taken as three coordinates.
+fn put_as_three(out: &mut [u8], sink: Sink, part: &[u8]) -> Sink
+    requires { ⌜ sink .used ≤ length (now out) ⌝ }
+    ensures { λ r. ⌜ r .used ≤ length (now (out .exit)) ⌝ }
+{
+    let iii = put(out, sink, b" iii ");
+    let signed = put_triple(out, iii, channel_spec::read_triple(part));
+    let uuu = put(out, signed, b" uuu ");
+    put_unsigned_triple(out, uuu, channel_spec::read_unsigned_triple(part))
+}
+
+fn put_coordinate(out: &mut [u8], sink: Sink, coordinate: Coordinate) -> Sink
+    requires { ⌜ sink .used ≤ length (now out) ⌝ }
+    ensures { λ r. ⌜ r .used ≤ length (now (out .exit)) ⌝ }
+{
+    match coordinate {
+        Coordinate::Value(n) => put_signed(out, sink, b"", n),
+        Coordinate::Refused(e) => put_code(out, sink, b"!", e),
+    }
+}
+
+fn put_unsigned_coordinate(out: &mut [u8], sink: Sink, coordinate: UnsignedCoordinate) -> Sink
+    requires { ⌜ sink .used ≤ length (now out) ⌝ }
+    ensures { λ r. ⌜ r .used ≤ length (now (out .exit)) ⌝ }
+{
+    match coordinate {
+        UnsignedCoordinate::Value(n) => put_number(out, sink, b"", n),
+        UnsignedCoordinate::Refused(e) => put_code(out, sink, b"!", e),
+    }
+}
+
+fn put_pair(out: &mut [u8], sink: Sink, pair: Pair) -> Sink
+    requires { ⌜ sink .used ≤ length (now out) ⌝ }
+    ensures { λ r. ⌜ r .used ≤ length (now (out .exit)) ⌝ }
+{
+    match pair {
+        Pair::Values(a, b) => {
+            let first = put_signed(out, sink, b"(", a);
+            let second = put_signed(out, first, b",", b);
+            put(out, second, b")")
+        }
+        Pair::Refused(e) => put_code(out, sink, b"!", e),
+    }
+}
+
+fn put_unsigned_pair(out: &mut [u8], sink: Sink, pair: UnsignedPair) -> Sink
+    requires { ⌜ sink .used ≤ length (now out) ⌝ }
+    ensures { λ r. ⌜ r .used ≤ length (now (out .exit)) ⌝ }
+{
+    match pair {
+        UnsignedPair::Values(a, b) => {
+            let first = put_number(out, sink, b"(", a);
+            let second = put_number(out, first, b",", b);
+            put(out, second, b")")
+        }
+        UnsignedPair::Refused(e) => put_code(out, sink, b"!", e),
+    }
+}
+
+fn put_triple(out: &mut [u8], sink: Sink, triple: Triple) -> Sink
+    requires { ⌜ sink .used ≤ length (now out) ⌝ }
+    ensures { λ r. ⌜ r .used ≤ length (now (out .exit)) ⌝ }
+{
+    match triple {
+        Triple::Values(a, b, c) => {
+            let first = put_signed(out, sink, b"(", a);
+            let second = put_signed(out, first, b",", b);
+            let third = put_signed(out, second, b",", c);
+            put(out, third, b")")
+        }
+        Triple::Refused(e) => put_code(out, sink, b"!", e),
+    }
+}
+
+fn put_unsigned_triple(out: &mut [u8], sink: Sink, triple: UnsignedTriple) -> Sink
+    requires { ⌜ sink .used ≤ length (now out) ⌝ }
+    ensures { λ r. ⌜ r .used ≤ length (now (out .exit)) ⌝ }
+{
+    match triple {
+        UnsignedTriple::Values(a, b, c) => {
+            let first = put_number(out, sink, b"(", a);
+            let second = put_number(out, first, b",", b);
+            let third = put_number(out, second, b",", c);
+            put(out, third, b")")
+        }
+        UnsignedTriple::Refused(e) => put_code(out, sink, b"!", e),
+    }
+}
+
+// A word and a view: `start..end`.
+fn put_view(out: &mut [u8], sink: Sink, word: &[u8], view: View) -> Sink
+    requires { ⌜ sink .used ≤ length (now out) ⌝ }
+    ensures { λ r. ⌜ r .used ≤ length (now (out .exit)) ⌝ }
+{
+    let start = put_number(out, sink, word, view.start as u64);
+    put_number(out, start, b"..", view.end as u64)
+}
+
+// A word and the number of a refusal.
+fn put_code(out: &mut [u8], sink: Sink, word: &[u8], e: ErrorCode) -> Sink
+    requires { ⌜ sink .used ≤ length (now out) ⌝ }
+    ensures { λ r. ⌜ r .used ≤ length (now (out .exit)) ⌝ }
+{
+    put_signed(out, sink, word, e.get_code() as i64)
+}
+
+// A word and a number, with a minus where it is below zero.
+fn put_signed(out: &mut [u8], sink: Sink, word: &[u8], n: i64) -> Sink
+    requires { ⌜ sink .used ≤ length (now out) ⌝ }
+    ensures { λ r. ⌜ r .used ≤ length (now (out .exit)) ⌝ }
+{
+    if n < 0 {
+        let begun = put(out, sink, word);
+        return put_number(out, begun, b"-", without_sign(n));
+    }
+    put_number(out, sink, word, without_sign(n))
+}
+
+// A number without its sign. The lowest of all has no opposite among the signed ones.
+fn without_sign(n: i64) -> u64 {
+    if n == i64::MIN {
+        return 9223372036854775808;
+    }
+    if n < 0 {
+        return (0 - n) as u64;
+    }
+    n as u64
+}
+
+// A word and a number.
+fn put_number(out: &mut [u8], sink: Sink, word: &[u8], n: u64) -> Sink
+    requires { ⌜ sink .used ≤ length (now out) ⌝ }
+    ensures { λ r. ⌜ r .used ≤ length (now (out .exit)) ⌝ }
+{
+    let mut digits = [0u8; 20];
+    let count = io::decimal(n, &mut digits);
+    let begun = put(out, sink, word);
+    put(out, begun, &digits[..count])
+}

@@ -101,12 +101,12 @@ module _ (q : ℕ) (s : List ℕ) (at : ℕ) (t : Token) (next : ℕ) (e : strin
   abbrev end : ℕ
   end = stringEnd q s at
 
-  string-view : (viewIn t ≡ viewOf at end) × (end < length s)
+  pub string-token : (t ≡ StringProgramData (viewOf at end)) × (end < length s)
   unfolding stringData closed
-  string-view =
+  string-token =
       let c = only-else t next (leb (length s) end) _ InvalidStringData e in
       let d = only-then t next (eqb (getD s end 0) q) _ InvalidCharacter (c .1) in
-      (sym (ap viewIn (only-followed t next (StringProgramData (viewOf at end)) SuffixNotAllowed s (end + 1) (d .1))), leb-false (length s) end (c .0))
+      (sym (only-followed t next (StringProgramData (viewOf at end)) SuffixNotAllowed s (end + 1) (d .1)), leb-false (length s) end (c .0))
 
 module _ (q : ℕ) (s : List ℕ) (st : State) (at : ℕ) (r : Read) (er : r ≡ stringData q s at) where
   pub path-refused′ : (e : ErrorCode) → r ≡ read.Refused e → (x : Step) → x ≡ refusal s st e → x ≡ pathAt q s st at
@@ -115,12 +115,12 @@ module _ (q : ℕ) (s : List ℕ) (st : State) (at : ℕ) (r : Read) (er : r ≡
 
   module _ (t : Token) (next : ℕ) (k : r ≡ read.Token t next) (v : View) (ev : v ≡ viewIn t) where
     shown : v ≡ viewOf at (stringEnd q s at)
-    shown = ev ∙ string-view q s at t next (sym er ∙ k) .0
+    shown = ev ∙ ap viewIn (string-token q s at t next (sym er ∙ k) .0)
 
     pub path-fits′ : length s * 1 < 2 ^ 63 → Fits w64 (v .end + 1)
     path-fits′ l =
         let e : v .end ≡ stringEnd q s at = ap (λ (u : View). u .end) shown in
-        record { fits = omega (arith, l, e, string-view q s at t next (sym er ∙ k) .1) }
+        record { fits = omega (arith, l, e, string-token q s at t next (sym er ∙ k) .1) }
 
     pub path′ : (x : Step) → x ≡ taken (item.PathName v) (v .end + 1) → x ≡ pathAt q s st at
     unfolding pathAt pathTo

@@ -14,8 +14,8 @@ use Rattle.util.specs.Run.{run, runEnd, standsAt}
 use Rattle.token.specs.View.{partOf}
 use Rattle.data.specs.Follow.{endsData, followed}
 use Rattle.data.specs.String.{inString, stringEnd, closed, stringData}
-use Rattle.channel_spec.specs.Spec.{inSpec, bang, bangs, dimensionOf, specTo, specAt}
-use Rattle.channel_list.specs.List.{stateOf, opened, taken, refusal, ended, beginsSpec, rangeWith, rangeTo, specsFrom, specsAt, pathTo, pathAt, itemAt, commaBefore, step}
+use Rattle.channel_spec.specs.Spec.{inSpec, bang, bangs, dimensionOf, specTo, specAt, isEmpty}
+use Rattle.channel_list.specs.List.{stateOf, opened, taken, refusal, ended, beginsSpec, rangeOf, rangeTo, specsFrom, specsAt, pathOf, pathAt, itemAt, commaBefore, step}
 use Rattle.channel_list.specs.Claims.{stateBehind, behindComma, Item, Rows, Claims}
 use Rattle.channel_list.specs.declared.State.{State}
 use Rattle.channel_list.specs.declared.Token as token
@@ -26,7 +26,7 @@ use Rattle.channel_list.proofs.Steps.{end′}
 use Rattle.channel_list.proofs.Progress.{each}
 
 rows : Rows
-unfolding opened step ended commaBefore itemAt beginsSpec specsAt specsFrom rangeTo rangeWith pathAt pathTo taken refusal specAt specTo dimensionOf bangs bang inSpec partOf stringData closed stringEnd inString followed endsData run runEnd standsAt isWhiteSpace isDigit isSign isQuote isAscii
+unfolding opened step ended commaBefore itemAt beginsSpec specsAt specsFrom rangeTo rangeOf pathAt pathOf taken refusal specAt specTo isEmpty dimensionOf bangs bang inSpec partOf stringData closed stringEnd inString followed endsData run runEnd standsAt isWhiteSpace isDigit isSign isQuote isAscii
 rows =
     record {
       opens-behind-at = refl;

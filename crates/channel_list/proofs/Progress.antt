@@ -16,14 +16,15 @@ use Rattle.util.specs.Run.{standsAt}
 use Rattle.util.proofs.Runs.{run-from}
 use Rattle.token.specs.View.{viewOf}
 use Rattle.token.specs.declared.View.{View}
+use Rattle.token.specs.declared.Token.the-variants.{StringProgramData}
 use Rattle.data.specs.String.{stringEnd, stringData}
 use Rattle.data.specs.declared.Read.{Read}
 use Rattle.data.specs.declared.Read.the-variants as read
 use Rattle.data.proofs.Progress.{run-moves}
 use Rattle.data.proofs.Forms.{string-form}
-use Rattle.channel_spec.specs.Spec.{inSpec, specTo, specAt}
+use Rattle.channel_spec.specs.Spec.{inSpec, specTo, specAt, isEmpty}
 use Rattle.channel_spec.specs.declared.ChannelSpec.{ChannelSpec}
-use Rattle.channel_list.specs.List.{taken, refusal, ended, beginsSpec, rangeWith, rangeTo, specsFrom, specsAt, pathTo, pathAt, itemAt, commaBefore, step}
+use Rattle.channel_list.specs.List.{taken, refusal, ended, beginsSpec, rangeOf, rangeTo, specsFrom, specsAt, pathOf, pathAt, itemAt, commaBefore, step}
 use Rattle.channel_list.specs.Claims.{behindComma, Item}
 use Rattle.channel_list.specs.declared.State.{State}
 use Rattle.channel_list.specs.declared.Token.{Token}
@@ -57,7 +58,7 @@ module _ (s : List ℕ) (st : State) (P : Step → Type 0) (refuses : (e : Error
 
     module _ (k : beginsSpec first ≡ true) where
       range-each : standsAt 58 s end ≡ true → P (rangeTo s st (end + 1) (specAt s at))
-      unfolding rangeTo rangeWith
+      unfolding rangeTo rangeOf isEmpty specAt specTo
       range-each c = by-test P (some && same) (λ e. range (and-left some same e) (and-right some same e)) (λ _. refuses InvalidExpression)
         where
           begin : ChannelSpec
@@ -67,7 +68,7 @@ module _ (s : List ℕ) (st : State) (P : Step → Type 0) (refuses : (e : Error
           to = specAt s (end + 1)
 
           some : Bool
-          some = not (eqb (to .view .end) (end + 1))
+          some = not (isEmpty to)
 
           same : Bool
           same = eqb (begin .dimension) (to .dimension)
@@ -75,7 +76,7 @@ module _ (s : List ℕ) (st : State) (P : Step → Type 0) (refuses : (e : Error
           range : some ≡ true → same ≡ true → P (taken (item.ChannelRange begin to) (to .view .end))
           range n d =
               let i : at < end = spec-moves s at h k in
-              let m : end + 1 < to .view .end = omega (arith, eqb-false (to .view .end) (end + 1) (not-true _ n), spec-from s (end + 1)) in
+              let m : end + 1 < to .view .end = omega (arith, eqb-false (end + 1) (to .view .end) (not-true _ n), spec-from s (end + 1)) in
               takes (item.ChannelRange begin to) (to .view .end) (omega (arith, i, m))
               (k, (refl, refl, i), c, (refl, refl, m), eqb-true (begin .dimension) (to .dimension) d)
 
@@ -85,12 +86,13 @@ module _ (s : List ℕ) (st : State) (P : Step → Type 0) (refuses : (e : Error
           let i : at < end = spec-moves s at h k in
           by-test P (standsAt 58 s end) range-each (λ _. takes (item.ChannelSpec (specAt s at)) end i (k, (refl, refl, i)))
 
-    path-each : isQuote first ≡ true → (r : Read) → stringData first s (at + 1) ≡ r → P (pathTo s st (at + 1) (stringEnd first s (at + 1)) r)
-    unfolding pathTo
+    path-each : isQuote first ≡ true → (r : Read) → stringData first s (at + 1) ≡ r → P (pathOf s st r)
+    unfolding pathOf
     path-each k (read.Token t next) e =
         let v : View = viewOf (at + 1) (stringEnd first s (at + 1)) in
-        let f = string-form first s (at + 1) v next (e ∙ rw (string-token first s (at + 1) t next e .0)) in
-        takes (item.PathName v) (v .end + 1) (omega (arith, f .1 .forward)) (k, refl, f .1, refl, f .2 .follows)
+        let q : t ≡ StringProgramData v = string-token first s (at + 1) t next e .0 in
+        let f = string-form first s (at + 1) v next (e ∙ rw q) in
+        rw q (takes (item.PathName v) (v .end + 1) (omega (arith, f .1 .forward)) (k, refl, f .1, refl, f .2 .follows))
     path-each k (read.Refused x) e = refuses x
 
     item-each : P (itemAt s st at)

@@ -25,9 +25,9 @@ use Rattle.data.specs.String.{stringEnd, closed, stringData}
 use Rattle.data.specs.declared.Read.{Read}
 use Rattle.data.specs.declared.Read.the-variants as read
 use Rattle.data.proofs.Accepted.{only-then, only-else, only-followed}
-use Rattle.channel_spec.specs.Spec.{specAt}
+use Rattle.channel_spec.specs.Spec.{specAt, isEmpty}
 use Rattle.channel_spec.specs.declared.ChannelSpec.{ChannelSpec}
-use Rattle.channel_list.specs.List.{stateOf, opened, taken, refusal, ended, beginsSpec, rangeWith, rangeTo, specsFrom, specsAt, pathTo, pathAt, itemAt, commaBefore, step}
+use Rattle.channel_list.specs.List.{stateOf, opened, taken, refusal, ended, beginsSpec, rangeOf, rangeTo, specsFrom, specsAt, pathOf, pathAt, itemAt, commaBefore, step}
 use Rattle.channel_list.specs.declared.State.{State}
 use Rattle.channel_list.specs.declared.Token.the-variants as item
 use Rattle.channel_list.specs.declared.Answer.the-variants as answer
@@ -66,18 +66,18 @@ pub ruleset parts = (needs, not-one′, opened′, taken-is′, refusal-is′, b
 module _ (s : List ℕ) (st : State) (at : ℕ) (x : Step) where
   -- the end of a range
   module _ (begin end : ChannelSpec) (ee : end ≡ specAt s at) where
-    pub range-empty′ : end .view .end ≡ at → x ≡ refusal s st InvalidExpression → x ≡ rangeTo s st at begin
-    unfolding rangeTo rangeWith
-    range-empty′ e ex = ex ∙ rw (← ee, eq-eqb (end .view .end) at e)
+    pub range-empty′ : end .view .start ≡ end .view .end → x ≡ refusal s st InvalidExpression → x ≡ rangeTo s st at begin
+    unfolding rangeTo rangeOf isEmpty
+    range-empty′ e ex = ex ∙ rw (← ee, eq-eqb (end .view .start) (end .view .end) e)
 
-    module _ (n : end .view .end ≡ at → ⊥) where
+    module _ (n : end .view .start ≡ end .view .end → ⊥) where
       pub range-unequal′ : (begin .dimension ≡ end .dimension → ⊥) → x ≡ refusal s st InvalidExpression → x ≡ rangeTo s st at begin
-      unfolding rangeTo rangeWith
-      range-unequal′ u ex = ex ∙ rw (← ee, ne-eqb (end .view .end) at n, ne-eqb (begin .dimension) (end .dimension) u)
+      unfolding rangeTo rangeOf isEmpty
+      range-unequal′ u ex = ex ∙ rw (← ee, ne-eqb (end .view .start) (end .view .end) n, ne-eqb (begin .dimension) (end .dimension) u)
 
       pub range′ : begin .dimension ≡ end .dimension → x ≡ taken (item.ChannelRange begin end) (end .view .end) → x ≡ rangeTo s st at begin
-      unfolding rangeTo rangeWith
-      range′ d ex = ex ∙ rw (← ee, ne-eqb (end .view .end) at n, eq-eqb (begin .dimension) (end .dimension) d)
+      unfolding rangeTo rangeOf isEmpty
+      range′ d ex = ex ∙ rw (← ee, ne-eqb (end .view .start) (end .view .end) n, eq-eqb (begin .dimension) (end .dimension) d)
 
   -- a spec, and what follows it
   module _ (begin : ChannelSpec) (eb : begin ≡ specAt s at) where
@@ -110,7 +110,7 @@ module _ (q : ℕ) (s : List ℕ) (at : ℕ) (t : Token) (next : ℕ) (e : strin
 
 module _ (q : ℕ) (s : List ℕ) (st : State) (at : ℕ) (r : Read) (er : r ≡ stringData q s at) where
   pub path-refused′ : (e : ErrorCode) → r ≡ read.Refused e → (x : Step) → x ≡ refusal s st e → x ≡ pathAt q s st at
-  unfolding pathAt pathTo
+  unfolding pathAt pathOf
   path-refused′ e k x ex = ex ∙ rw (← er, k)
 
   module _ (t : Token) (next : ℕ) (k : r ≡ read.Token t next) (v : View) (ev : v ≡ viewIn t) where
@@ -123,8 +123,8 @@ module _ (q : ℕ) (s : List ℕ) (st : State) (at : ℕ) (r : Read) (er : r ≡
         record { fits = omega (arith, l, e, string-token q s at t next (sym er ∙ k) .1) }
 
     pub path′ : (x : Step) → x ≡ taken (item.PathName v) (v .end + 1) → x ≡ pathAt q s st at
-    unfolding pathAt pathTo
-    path′ x ex = ex ∙ rw (← er, k, shown)
+    unfolding pathAt pathOf
+    path′ x ex = ex ∙ rw (← er, k, ev)
 
 pub ruleset paths = (needs, path-refused′, path-fits′, path′)
 

@@ -9,11 +9,11 @@ use Rattle.error.specs.declared.ErrorCode.{ErrorCode}
 use Rattle.error.specs.declared.ErrorCode.the-variants.{InvalidExpression}
 use Rattle.kind.specs.Class.{is, isDigit, isSign, isQuote}
 use Rattle.util.specs.Run.{standsAt}
-use Rattle.token.specs.View.{viewOf}
-use Rattle.data.specs.String.{stringEnd, stringData}
+use Rattle.token.specs.Token.{viewIn}
+use Rattle.data.specs.String.{stringData}
 use Rattle.data.specs.declared.Read.{Read}
 use Rattle.data.specs.declared.Read.the-variants as read
-use Rattle.channel_spec.specs.Spec.{specAt}
+use Rattle.channel_spec.specs.Spec.{specAt, isEmpty}
 use Rattle.channel_spec.specs.declared.ChannelSpec.{ChannelSpec}
 use Rattle.channel_list.specs.declared.State.{State}
 use Rattle.channel_list.specs.declared.Token.{Token}
@@ -43,22 +43,22 @@ refusal s st e = record { answer = answer.Refused e; state = stateOf (length s) 
 unfoldable pub ended : State → ℕ → Step
 ended st place = record { answer = answer.End; state = stateOf place (st .first) }
 
--- a digit or a sign begins a spec; the end of a range may also begin with `!`
+-- a digit or a sign begins a spec
 unfoldable pub beginsSpec : ℕ → Bool
 beginsSpec b = isDigit b || isSign b
 
--- SCPI-99 8.3.2: a range that begins with one spec ends with another, which is not empty and of the same dimension
-unfoldable pub rangeWith : List ℕ → State → ℕ → ChannelSpec → ChannelSpec → Step
-rangeWith s st at begin end =
-    cond (not (eqb (end .view .end) at) && eqb (begin .dimension) (end .dimension))
+-- SCPI-99 8.3.2: a range from one spec to another, which is not empty and of the same dimension
+unfoldable pub rangeOf : List ℕ → State → ChannelSpec → ChannelSpec → Step
+rangeOf s st begin end =
+    cond (not (isEmpty end) && eqb (begin .dimension) (end .dimension))
     (taken (item.ChannelRange begin end) (end .view .end))
     (refusal s st InvalidExpression)
 
--- its end stands behind the colon, from a place on
+-- the end of a range, from the place behind its colon; it may begin with `!` too
 unfoldable pub rangeTo : List ℕ → State → ℕ → ChannelSpec → Step
-rangeTo s st at begin = rangeWith s st at begin (specAt s at)
+rangeTo s st at begin = rangeOf s st begin (specAt s at)
 
--- SCPI-99 8.3.2: a spec, and a range where a colon follows it
+-- SCPI-99 8.3.2: a spec, or a range where a colon follows it
 unfoldable pub specsFrom : List ℕ → State → ChannelSpec → Step
 specsFrom s st begin =
     cond (standsAt (code ":") s (begin .view .end))
@@ -68,15 +68,15 @@ specsFrom s st begin =
 unfoldable pub specsAt : List ℕ → State → ℕ → Step
 specsAt s st at = specsFrom s st (specAt s at)
 
--- what was read as a string from a place up to its closing quote, as a path name
-unfoldable pub pathTo : List ℕ → State → ℕ → ℕ → Read → Step
-pathTo s st at end (read.Token t next) = taken (item.PathName (viewOf at end)) (end + 1)
-pathTo s st at end (read.Refused e) = refusal s st e
+-- what was read as a string, as a path name: the place behind it is that behind its closing quote
+unfoldable pub pathOf : List ℕ → State → Read → Step
+pathOf s st (read.Token t next) = taken (item.PathName (viewIn t)) ((viewIn t) .end + 1)
+pathOf s st (read.Refused e) = refusal s st e
 
--- SCPI-99 8.3.2: a path name is a string (IEEE 488.2 7.7.5), from the place behind its opening quote; the place behind it is
--- that behind the closing quote, before any white space
+-- SCPI-99 8.3.2: a path name is a string (IEEE 488.2 7.7.5) with its refusals, from the place behind its opening quote. White
+-- space and then the end, `,` or `;` must follow, as behind any string, but none of it is passed.
 unfoldable pub pathAt : ℕ → List ℕ → State → ℕ → Step
-pathAt q s st at = pathTo s st at (stringEnd q s at) (stringData q s at)
+pathAt q s st at = pathOf s st (stringData q s at)
 
 -- an item, by the byte that it begins with
 unfoldable pub itemAt : List ℕ → State → ℕ → Step
@@ -91,7 +91,8 @@ commaBefore s st at =
     cond (st .first) (refusal s st InvalidExpression)
     (cond (leb (length s) at) (ended st at) (itemAt s st at))
 
--- the next step: End at or past the end of the text; a comma is passed, and else an item stands there
+-- the next step: End at or past the end of the text; behind a comma the end or an item, and an item without one; the standard has a
+-- comma between all items and nowhere else (docs/DIFFERENCES.md)
 unfoldable pub step : List ℕ → State → Step
 step s st =
     cond (leb (length s) (st .place)) (ended st (st .place))

@@ -136,7 +136,7 @@ fn range(s: &[u8], at: usize, state: State, begin: ChannelSpec) -> Step
 {
     let end = channel_spec::read_channel_spec(s, at);
     let next = end.view.end;
-    if next == at {
+    if end.view.start == next {
         return refused(s, state, ErrorCode::InvalidExpression);
     }
     if begin.dimension != end.dimension {

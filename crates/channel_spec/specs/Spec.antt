@@ -2,6 +2,7 @@
 use Prim.Native.Nat.{ℕ, suc, _+_}
 use mathlib.Core.List.{List, [], _∷_}
 use mathlib.Core.Bool.{Bool, cond, _||_}
+use lib.Dec.{eqb}
 use Rattle.kind.specs.Class.{is, isDigit, isSign}
 use Rattle.util.specs.Run.{runEnd}
 use Rattle.token.specs.View.{viewOf, partOf}
@@ -30,3 +31,7 @@ specTo s at end = record { view = viewOf at end; dimension = dimensionOf (partOf
 
 unfoldable pub specAt : List ℕ → ℕ → ChannelSpec
 specAt s at = specTo s at (runEnd inSpec s at)
+
+-- a spec of no characters
+unfoldable pub isEmpty : ChannelSpec → Bool
+isEmpty c = eqb (c .view .start) (c .view .end)

@@ -4,16 +4,16 @@ use mathlib.Core.Path.{_≡_, refl, sym, ap, _∙_}
 use mathlib.Core.List.{List, [], _∷_, _++_, append-nil}
 use mathlib.Core.Option.{Option, none, some}
 use mathlib.Core.Logic.{⊎-elim}
-use mathlib.Core.Bool.{Bool, true, false, _&&_, false≢true}
+use mathlib.Core.Bool.{Bool, true, false, _&&_, false≢true, and-false}
 use native.Mathlib.Omega.{arith}
 use native.Mathlib.Nat.{mod-lt, div-add-mod'}
-use lib.Dec.{leb, ltb, lit<}
+use lib.Dec.{eqb, leb, ltb, lit<}
 use lib.IntN.{ℤ, pos, negsuc}
 use lib.Signed.{mag}
-use lib.ListN.{length, drop, drop-of-length-le, length-append}
-use borrow.Author.Tests.{le-leb, lt-leb}
+use lib.ListN.{length, getD, drop, drop-of-length-le, length-append, length-drop}
+use borrow.Author.Tests.{le-leb, lt-leb, not-true}
 use Rattle.kind.specs.Class.{isDigit, isSign}
-use Rattle.kind.proofs.Tests.{and-both, by-test, less-or-not}
+use Rattle.kind.proofs.Tests.{and-left, and-both, by-test, less-or-not}
 use Rattle.util.specs.Run.{run, runEnd, signEnd, standsAt, every}
 use Rattle.util.specs.Walk.{after}
 use Rattle.util.proofs.Walks.{arrives}
@@ -24,18 +24,21 @@ use Rattle.number.specs.declared.Signed.{Signed}
 use Rattle.number.specs.declared.Signed.the-variants as signed
 use Rattle.number.proofs.Claims as number
 use Rattle.token.specs.View.{partOf}
+use Rattle.data.proofs.Seams.{here-inside, here-stands, here-next}
 use Rattle.channel_spec.specs.Spec.{inSpec, bang, bangs, dimensionOf, specTo, specAt}
 use Rattle.channel_spec.specs.Item.{refusal, bangEnd, itemBy, itemOf, itemAt}
 use Rattle.channel_spec.specs.Coordinate as values
 use Rattle.channel_spec.specs.Coordinate.{onto, parts, whole, integer, both, integers, written, firstOf, coordinateOf, pairOf, tripleOf, unsignedPairOf, unsignedTripleOf}
-use Rattle.channel_spec.specs.Form.{signedBy, Decimal, Coordinates}
+use Rattle.channel_spec.specs.Form.{signedBy, Decimal, Coordinates, Walk}
 use Rattle.channel_spec.specs.Form.Coordinates.{one, more}
-use Rattle.channel_spec.proofs.Integers.{Read, none-some, some-same, decimal-read, integer-form}
+use Rattle.channel_spec.specs.Form.Walk.{ends, gives}
+use Rattle.channel_spec.proofs.Integers.{Read, some-byte, none-some, some-same, decimal-read, integer-form}
 use Rattle.channel_spec.proofs.Items.{end′}
 use Rattle.channel_spec.proofs.Coordinates.{bangs-joined, bangs-plain, one′}
-use Rattle.channel_spec.proofs.Parts.{Front, front-of, whole-plain, parts-before, integer-of, integer-is}
+use Rattle.channel_spec.proofs.Parts.{Front, front-of, plain, whole-plain, parts-before, integer-of, integer-is}
 use Rattle.channel_spec.specs.declared.Item.the-variants as item
 use Rattle.channel_spec.specs.declared.Coordinate.the-variants as coordinate
+use Rattle.channel_spec.specs.declared.Step.{Step}
 use Rattle.channel_spec.specs.declared.Pair.{Pair}
 use Rattle.channel_spec.specs.declared.Pair.the-variants as pair
 use Rattle.channel_spec.specs.declared.Triple.{Triple}
@@ -65,6 +68,9 @@ rows =
       negative-second = refl;
       negative-third = refl;
       negative-unwritten = refl;
+      row-item = refl;
+      column-item = refl;
+      last-item = refl;
       first-item = refl;
       no-item = refl;
     }
@@ -247,7 +253,7 @@ module _ (s : List ℕ) (at : ℕ) where
   unfolding itemBy refusal
   item-moves i k h (signed.Value v end) e =
       let r : Read s i v end = integer-form s i v end e in
-      omega (arith, k, r .behind, ap length (r .decimal .form .parts), length-append (r .decimal .form .sign) (r .decimal .form .digits), r .decimal .some-digit)
+      omega (arith, k, r .behind, some-byte (r .word) v (r .decimal))
   item-moves i k h signed.NoDigit e = h
   item-moves i k h signed.TooLarge e = h
 
@@ -258,6 +264,46 @@ module _ (s : List ℕ) (at : ℕ) where
   moves : at < length s → at < (itemAt s at) .place
   unfolding itemAt itemOf
   moves h = rw (lt-leb (length s) at h) (item-moves (bangEnd s at) bang-from h (signedAt s (bangEnd s at)) refl)
+
+-- an integer in decimal begins with no `!`
+no-bang : (w y : List ℕ) → 0 < length w → every plain w ≡ true → standsAt 33 (w ++ y) 0 ≡ false
+unfolding standsAt every
+no-bang [] y h a = absurd (omega (arith, h))
+no-bang (b ∷ w) y h a = rw (not-true (eqb b 33) (and-left (plain b) (every plain w) a)) (and-false (ltb 0 (suc (length (w ++ y)))))
+
+-- a step over an integer, which begins at the place or behind a `!` there
+item-read : (s : List ℕ) (at i : ℕ) (w y : List ℕ) (v : ℤ) → at < length s → bangEnd s at ≡ i → drop i s ≡ w ++ y → Decimal w v → isDigit (getD y 0 0) ≡ false
+    → itemAt s at ≡ record { item = item.Value v; place = i + length w }
+unfolding itemAt itemOf itemBy
+item-read s at i w y v h b e d z = rw (lt-leb (length s) at h, b, decimal-read s i w y e v d z)
+
+walk-from : (s : List ℕ) (at i : ℕ) (t : List ℕ) (vs : List ℤ) → at < length s → bangEnd s at ≡ i → drop i s ≡ t → Coordinates t vs → Walk s at vs
+unfolding isDigit bangEnd
+walk-from s at i t vs h b e (one w v d) =
+    let q : itemAt s at ≡ record { item = item.Value v; place = i + length w } = item-read s at i w [] v h b (e ∙ sym (append-nil w)) d refl in
+    let k : length s ≤ i + length w = omega (arith, ap length e, length-drop i s) in
+    gives at v [] (ap (λ (x : Step). x .item) q) (rw q (ends (i + length w) (ap (λ (x : Step). x .item) (rests s (i + length w) k))))
+walk-from s at i t vs h b e (more w u v ws d c) =
+    let q : itemAt s at ≡ record { item = item.Value v; place = i + length w } = item-read s at i w (33 ∷ u) v h b e d refl in
+    let n : drop (i + length w) s ≡ 33 ∷ u = here-next s i w (33 ∷ u) e in
+    let k : bangEnd s (i + length w) ≡ i + length w + 1 = rw (here-stands s (i + length w) 33 u n) in
+    gives at v ws (ap (λ (x : Step). x .item) q)
+    (rw q (walk-from s (i + length w) (i + length w + 1) u ws (here-inside s (i + length w) 33 u n) k (here-next s (i + length w) (33 ∷ []) u n) c))
+
+from-front : (t : List ℕ) → standsAt 33 t 0 ≡ false → bangEnd t 0 ≡ 0
+unfolding bangEnd
+from-front t e = rw e
+
+begins : (t : List ℕ) (vs : List ℤ) → Coordinates t vs → (0 < length t) × (standsAt 33 t 0 ≡ false)
+begins t vs (one w v d) =
+    let h : 0 < length w = some-byte w v d in
+    (h, ap (λ (x : List ℕ). standsAt 33 x 0) (sym (append-nil w)) ∙ no-bang w [] h (whole-plain w (d .form)))
+begins t vs (more w u v ws d c) =
+    let h : 0 < length w = some-byte w v d in
+    (omega (arith, h, length-append w (33 ∷ u)), no-bang w (33 ∷ u) h (whole-plain w (d .form)))
+
+walk : (t : List ℕ) (vs : List ℤ) → Coordinates t vs → Walk t 0 vs
+walk t vs c = walk-from t 0 0 t vs (begins t vs c .0) (from-front t (begins t vs c .1)) refl c
 
 at-most : (s : List ℕ) (at : ℕ) → (itemAt s (after (λ (i : ℕ). (itemAt s i) .place) (length s) at)) .item ≡ item.End
 at-most s at =
@@ -274,6 +320,7 @@ claims =
       triple-written = triple-written;
       one-read = one-read;
       dimension = dimension;
+      walk = walk;
       moves = moves;
       rests = rests;
       at-most = at-most;

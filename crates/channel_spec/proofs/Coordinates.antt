@@ -34,7 +34,7 @@ use Rattle.channel_spec.specs.declared.Joined.{Joined}
 use Rattle.channel_spec.specs.declared.Joined.the-variants as joined
 use Rattle.channel_spec.specs.declared.Last.{Last}
 use Rattle.channel_spec.specs.declared.Last.the-variants as last
-use Rattle.channel_spec.proofs.Integers.{Read, isValue, integer-form}
+use Rattle.channel_spec.proofs.Integers.{Read, isValue, some-byte, integer-form}
 use Rattle.channel_spec.proofs.Parts.{Front, front-of, plain, whole-plain, then-last, then-bang, then-other, then-none}
 
 -- coordinates behind another are one more at least
@@ -315,9 +315,9 @@ module _ (s : List ℕ) where
           let d : drop end s ≡ word .rest = ap (λ (i : ℕ). drop i s) e ∙ ap (drop (length (word .word))) (word .parts) ∙ drop-append-seam (word .word) (word .rest) in
           ap bangs (word .parts) ∙ bangs-joined (word .word) (word .rest) ∙ rw (bangs-plain (word .word) (whole-plain (word .word) (word .decimal .form)), d) (omega arith)
 
-      some-byte : 0 < length s
-      some-byte =
-          omega (arith, ap length (word .parts), length-append (word .word) (word .rest), ap length (word .decimal .form .parts), length-append (word .decimal .form .sign) (word .decimal .form .digits), word .decimal .some-digit)
+      not-empty : 0 < length s
+      not-empty =
+          omega (arith, ap length (word .parts), length-append (word .word) (word .rest), some-byte (word .word) v (word .decimal))
 
       pub one-more′ : b ≡ true → coordinate.Refused InvalidExpression ≡ coordinateOf s
       unfolding coordinateOf
@@ -327,6 +327,6 @@ module _ (s : List ℕ) where
       unfolding coordinateOf firstOf itemOf itemBy
       one′ k =
           let z : bangs s ≡ 0 = omega (arith, counted, ltb-false 0 (bangs (drop end s)) (sym eb ∙ k)) in
-          rw (just-one z, first-item z some-byte, ← er, q)
+          rw (just-one z, first-item z not-empty, ← er, q)
 
 pub ruleset ones = (needs, no-one-more′, no-one-first′, one-none′, one-large′, one-more′, one′)

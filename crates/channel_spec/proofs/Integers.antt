@@ -186,6 +186,11 @@ unfolding signedBy
 decimal-worth {v = v} d =
     bounds (standsAt 45 (d .form .sign) 0) (valueOf 10 (d .form .digits)) (rw (d .value) at (d .fits)) ∙ ap some (sym (d .value))
 
+-- it has a byte at least
+pub some-byte : (t : List ℕ) (v : ℤ) → Decimal t v → 0 < length t
+some-byte t v d =
+    omega (arith, ap length (d .form .parts), length-append (d .form .sign) (d .form .digits), d .some-digit)
+
 pub decimal-read : (s : List ℕ) (at : ℕ) (w y : List ℕ) → drop at s ≡ w ++ y → (v : ℤ) → Decimal w v → isDigit (getD y 0 0) ≡ false → signedAt s at ≡ signed.Value v (at + length w)
 decimal-read s at w y h v d stops =
     integer-read s at w y h (d .form) (d .some-digit) stops ∙ ap (λ (o : Option ℤ). asSigned o (at + length w)) (decimal-worth d)

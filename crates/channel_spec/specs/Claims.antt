@@ -12,7 +12,7 @@ use Rattle.token.specs.View.{viewOf}
 use Rattle.channel_spec.specs.Spec.{dimensionOf, specAt}
 use Rattle.channel_spec.specs.Item.{itemAt}
 use Rattle.channel_spec.specs.Coordinate.{written, coordinateOf, pairOf, tripleOf, unsignedOf, unsignedPairOf, unsignedTripleOf}
-use Rattle.channel_spec.specs.Form.{Decimal, Coordinates}
+use Rattle.channel_spec.specs.Form.{Decimal, Coordinates, Walk}
 use Rattle.channel_spec.specs.declared.Item.the-variants as item
 use Rattle.channel_spec.specs.declared.Coordinate.the-variants as coordinate
 use Rattle.channel_spec.specs.declared.Pair.{Pair}
@@ -56,7 +56,10 @@ pub record Rows : Type 0 where
   pub negative-second : unsignedPairOf (pairIn (ascii "1!-2")) ≡ unsigned-pair.Refused IllegalParameterValue
   pub negative-third : unsignedTripleOf (tripleIn (ascii "1!2!-3")) ≡ unsigned-triple.Refused IllegalParameterValue
   pub negative-unwritten : unsignedPairOf (pairIn (ascii "-1!")) ≡ unsigned-pair.Refused ExpressionError
-  -- the walk through `1!!`: 1, and then a `!` behind which no integer stands
+  -- the walk through `3!7`: 3, 7 and the end; through `1!!`: 1, and then a `!` behind which no integer stands
+  pub row-item : itemAt (ascii "3!7") 0 ≡ record { item = item.Value (pos 3); place = 1 }
+  pub column-item : itemAt (ascii "3!7") 1 ≡ record { item = item.Value (pos 7); place = 3 }
+  pub last-item : itemAt (ascii "3!7") 3 ≡ record { item = item.End; place = 3 }
   pub first-item : itemAt (ascii "1!!") 0 ≡ record { item = item.Value (pos 1); place = 1 }
   pub no-item : itemAt (ascii "1!!") 1 ≡ record { item = item.Refused ExpressionError; place = 3 }
 
@@ -73,7 +76,10 @@ pub record Claims : Type 0 where
   pub one-read : (t : List ℕ) (a : ℤ) → Decimal t a → coordinateOf t ≡ coordinate.Value a
   -- so many coordinates have that dimension
   pub dimension : (t : List ℕ) (vs : List ℤ) → Coordinates t vs → dimensionOf t ≡ length vs
-  -- each step of the walk inside the text moves the place, and a spec of n bytes gives n items and refusals at most
+  -- the walk through coordinates gives them one after the other, and then ends
+  pub walk : (t : List ℕ) (vs : List ℤ) → Coordinates t vs → Walk t 0 vs
+  -- each step of the walk inside the text moves the place, at the end it rests, and a spec of n bytes gives n items and refusals
+  -- at most
   pub moves : (s : List ℕ) (at : ℕ) → at < length s → at < (itemAt s at) .place
   pub rests : (s : List ℕ) (at : ℕ) → length s ≤ at → itemAt s at ≡ record { item = item.End; place = at }
   pub at-most : (s : List ℕ) (at : ℕ) → (itemAt s (after (λ (i : ℕ). (itemAt s i) .place) (length s) at)) .item ≡ item.End

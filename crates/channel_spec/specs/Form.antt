@@ -10,6 +10,8 @@ use lib.ListN.{length}
 use Rattle.util.specs.Run.{standsAt}
 use Rattle.number.specs.Digit.{valueOf}
 use Rattle.data.specs.Form.{Whole}
+use Rattle.channel_spec.specs.Item.{itemAt}
+use Rattle.channel_spec.specs.declared.Item.the-variants as item
 
 -- a number, negated where its sign is a minus
 unfoldable pub signedBy : List ℕ → ℕ → ℤ
@@ -27,3 +29,8 @@ pub record Decimal (t : List ℕ) (v : ℤ) : Type 0 where
 pub data Coordinates : List ℕ → List ℤ → Type 0 where
   one : (t : List ℕ) (v : ℤ) → Decimal t v → Coordinates t (v ∷ [])
   more : (t u : List ℕ) (v : ℤ) (vs : List ℤ) → Decimal t v → Coordinates u vs → Coordinates (t ++ (code "!" ∷ u)) (v ∷ vs)
+
+-- the walk through a text from a place on gives these values one after the other, and then End
+pub data Walk (s : List ℕ) : ℕ → List ℤ → Type 0 where
+  ends : (at : ℕ) → (itemAt s at) .item ≡ item.End → Walk s at []
+  gives : (at : ℕ) (v : ℤ) (vs : List ℤ) → (itemAt s at) .item ≡ item.Value v → Walk s ((itemAt s at) .place) vs → Walk s at (v ∷ vs)

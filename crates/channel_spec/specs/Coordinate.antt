@@ -95,7 +95,7 @@ abbrev pub isNegative : ℤ → Bool
 isNegative (pos n) = false
 isNegative (negsuc n) = true
 
--- The unsigned forms: a negative is -224, after all else.
+-- The unsigned forms: a negative is -224, after all else. The largest value is that of the signed forms.
 unfoldable pub unsignedOf : Coordinate → UnsignedCoordinate
 unsignedOf (coordinate.Value a) = cond (isNegative a) (unsigned-coordinate.Refused IllegalParameterValue) (unsigned-coordinate.Value (natAbs a))
 unsignedOf (coordinate.Refused e) = unsigned-coordinate.Refused e

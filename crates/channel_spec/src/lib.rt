@@ -116,6 +116,8 @@ fn bang(b: u8) -> usize
     if b == b'!' { 1 } else { 0 }
 }
 
+// From here on a spec is its part of the text: its `!` are counted there, whatever dimension a caller may hold.
+
 // The next item of a spec, from a place on: one `!` is passed, and then a signed integer is read.
 pub fn next(spec: &[u8], place: usize) -> Step
     ensures { λ r. ⌜ r ≡ itemAt (now (spec .entry)) place ⌝ }

@@ -1,6 +1,4 @@
 // The answers of the list readers as text.
-ghost use Prim.Native.Nat.{_≤_};
-ghost use lib.ListN.{length};
 use crate::Sink;
 use crate::put;
 use channel_list::Opened;
@@ -16,10 +14,7 @@ use error::ErrorCode;
 use token::View;
 
 // The items of a channel list; `none` for a text that is not one.
-pub(crate) fn put_channels(text: &[u8], out: &mut [u8], sink: Sink) -> Sink
-    requires { ⌜ sink .used ≤ length (now out) ⌝ }
-    ensures { λ r. ⌜ r .used ≤ length (now (out .exit)) ⌝ }
-{
+pub(crate) fn put_channels(text: &[u8], out: &mut [u8], sink: Sink) -> Sink {
     match channel_list::new(text) {
         Opened::List(front) => put_channels_from(text, front, out, sink),
         Opened::NotOne => put(out, sink, b"none\n"),
@@ -28,10 +23,7 @@ pub(crate) fn put_channels(text: &[u8], out: &mut [u8], sink: Sink) -> Sink
 
 // Adds each item, up to the end of the list or a refusal. A text of n bytes gives at most n items before that, so
 // n + 1 turns are enough.
-fn put_channels_from(text: &[u8], front: channel_list::State, out: &mut [u8], sink: Sink) -> Sink
-    requires { ⌜ sink .used ≤ length (now out) ⌝ }
-    ensures { λ r. ⌜ r .used ≤ length (now (out .exit)) ⌝ }
-{
+fn put_channels_from(text: &[u8], front: channel_list::State, out: &mut [u8], sink: Sink) -> Sink {
     let mut state = front;
     let mut last = sink;
     let mut turn = 0;
@@ -53,10 +45,7 @@ fn put_channels_from(text: &[u8], front: channel_list::State, out: &mut [u8], si
 }
 
 // The items of a numeric list, in as many turns.
-pub(crate) fn put_numbers(text: &[u8], out: &mut [u8], sink: Sink) -> Sink
-    requires { ⌜ sink .used ≤ length (now out) ⌝ }
-    ensures { λ r. ⌜ r .used ≤ length (now (out .exit)) ⌝ }
-{
+pub(crate) fn put_numbers(text: &[u8], out: &mut [u8], sink: Sink) -> Sink {
     let mut state = numeric_list::new();
     let mut last = sink;
     let mut turn = 0;
@@ -78,10 +67,7 @@ pub(crate) fn put_numbers(text: &[u8], out: &mut [u8], sink: Sink) -> Sink
 }
 
 // An item of a channel list.
-fn put_channel(out: &mut [u8], sink: Sink, text: &[u8], token: channel_list::Token) -> Sink
-    requires { ⌜ sink .used ≤ length (now out) ⌝ }
-    ensures { λ r. ⌜ r .used ≤ length (now (out .exit)) ⌝ }
-{
+fn put_channel(out: &mut [u8], sink: Sink, text: &[u8], token: channel_list::Token) -> Sink {
     match token {
         channel_list::Token::ChannelSpec(spec) => put_spec(out, sink, b"spec ", text, spec),
         channel_list::Token::ChannelRange(begin, end) => {
@@ -93,10 +79,7 @@ fn put_channel(out: &mut [u8], sink: Sink, text: &[u8], token: channel_list::Tok
 }
 
 // An item of a numeric list.
-fn put_numeric(out: &mut [u8], sink: Sink, token: numeric_list::Token) -> Sink
-    requires { ⌜ sink .used ≤ length (now out) ⌝ }
-    ensures { λ r. ⌜ r .used ≤ length (now (out .exit)) ⌝ }
-{
+fn put_numeric(out: &mut [u8], sink: Sink, token: numeric_list::Token) -> Sink {
     match token {
         numeric_list::Token::Numeric(view) => put_view(out, sink, b"number ", view),
         numeric_list::Token::NumericRange(begin, end) => {
@@ -107,37 +90,25 @@ fn put_numeric(out: &mut [u8], sink: Sink, token: numeric_list::Token) -> Sink
 }
 
 // The place behind an item, and what stands before the next part.
-fn put_place(out: &mut [u8], sink: Sink, place: usize) -> Sink
-    requires { ⌜ sink .used ≤ length (now out) ⌝ }
-    ensures { λ r. ⌜ r .used ≤ length (now (out .exit)) ⌝ }
-{
+fn put_place(out: &mut [u8], sink: Sink, place: usize) -> Sink {
     let shown = put_number(out, sink, b" @", place as u64);
     put(out, shown, b" | ")
 }
 
 // The last part, at the end of a channel list.
-fn put_end(out: &mut [u8], sink: Sink, place: usize) -> Sink
-    requires { ⌜ sink .used ≤ length (now out) ⌝ }
-    ensures { λ r. ⌜ r .used ≤ length (now (out .exit)) ⌝ }
-{
+fn put_end(out: &mut [u8], sink: Sink, place: usize) -> Sink {
     let shown = put_number(out, sink, b"end @", place as u64);
     put(out, shown, b"\n")
 }
 
 // The last part, at a refusal.
-fn put_refused(out: &mut [u8], sink: Sink, e: ErrorCode) -> Sink
-    requires { ⌜ sink .used ≤ length (now out) ⌝ }
-    ensures { λ r. ⌜ r .used ≤ length (now (out .exit)) ⌝ }
-{
+fn put_refused(out: &mut [u8], sink: Sink, e: ErrorCode) -> Sink {
     let shown = put_code(out, sink, b"refused ", e);
     put(out, shown, b"\n")
 }
 
 // A word, and all that is said of a spec: `(start,len,dim) items [a,b,..] i X u X ii X uu X iii X uuu X`.
-fn put_spec(out: &mut [u8], sink: Sink, word: &[u8], text: &[u8], spec: ChannelSpec) -> Sink
-    requires { ⌜ sink .used ≤ length (now out) ⌝ }
-    ensures { λ r. ⌜ r .used ≤ length (now (out .exit)) ⌝ }
-{
+fn put_spec(out: &mut [u8], sink: Sink, word: &[u8], text: &[u8], spec: ChannelSpec) -> Sink {
     let part = token::part(text, spec.view);
     let begun = put(out, sink, word);
     let shape = put_shape(out, begun, spec.view.start, part.len(), spec.dimension);
@@ -146,10 +117,7 @@ fn put_spec(out: &mut [u8], sink: Sink, word: &[u8], text: &[u8], spec: ChannelS
 }
 
 // `(start,len,dim)`
-fn put_shape(out: &mut [u8], sink: Sink, start: usize, len: usize, dimension: usize) -> Sink
-    requires { ⌜ sink .used ≤ length (now out) ⌝ }
-    ensures { λ r. ⌜ r .used ≤ length (now (out .exit)) ⌝ }
-{
+fn put_shape(out: &mut [u8], sink: Sink, start: usize, len: usize, dimension: usize) -> Sink {
     let first = put_number(out, sink, b"(", start as u64);
     let second = put_number(out, first, b",", len as u64);
     let third = put_number(out, second, b",", dimension as u64);
@@ -157,10 +125,7 @@ fn put_shape(out: &mut [u8], sink: Sink, start: usize, len: usize, dimension: us
 }
 
 // ` items [a,b,..]`: the walk of a spec, up to its end or a refusal. It takes n + 1 turns, as a list does.
-fn put_items(out: &mut [u8], sink: Sink, part: &[u8]) -> Sink
-    requires { ⌜ sink .used ≤ length (now out) ⌝ }
-    ensures { λ r. ⌜ r .used ≤ length (now (out .exit)) ⌝ }
-{
+fn put_items(out: &mut [u8], sink: Sink, part: &[u8]) -> Sink {
     let mut last = put(out, sink, b" items [");
     let mut place = 0;
     let mut turn = 0;
@@ -181,49 +146,34 @@ fn put_items(out: &mut [u8], sink: Sink, part: &[u8]) -> Sink
 }
 
 // An item of a walk.
-fn put_item(out: &mut [u8], sink: Sink, place: usize, n: i64) -> Sink
-    requires { ⌜ sink .used ≤ length (now out) ⌝ }
-    ensures { λ r. ⌜ r .used ≤ length (now (out .exit)) ⌝ }
-{
+fn put_item(out: &mut [u8], sink: Sink, place: usize, n: i64) -> Sink {
     let comma = put_comma(out, sink, place);
     put_signed(out, comma, b"", n)
 }
 
 // A refusal that ends a walk.
-fn put_last_item(out: &mut [u8], sink: Sink, place: usize, e: ErrorCode) -> Sink
-    requires { ⌜ sink .used ≤ length (now out) ⌝ }
-    ensures { λ r. ⌜ r .used ≤ length (now (out .exit)) ⌝ }
-{
+fn put_last_item(out: &mut [u8], sink: Sink, place: usize, e: ErrorCode) -> Sink {
     let comma = put_comma(out, sink, place);
     let shown = put_code(out, comma, b"!", e);
     put(out, shown, b"]")
 }
 
 // A comma, but none before the first item of a walk.
-fn put_comma(out: &mut [u8], sink: Sink, place: usize) -> Sink
-    requires { ⌜ sink .used ≤ length (now out) ⌝ }
-    ensures { λ r. ⌜ r .used ≤ length (now (out .exit)) ⌝ }
-{
+fn put_comma(out: &mut [u8], sink: Sink, place: usize) -> Sink {
     if place == 0 {
         return sink;
     }
     put(out, sink, b",")
 }
 
-fn put_coordinates(out: &mut [u8], sink: Sink, part: &[u8]) -> Sink
-    requires { ⌜ sink .used ≤ length (now out) ⌝ }
-    ensures { λ r. ⌜ r .used ≤ length (now (out .exit)) ⌝ }
-{
+fn put_coordinates(out: &mut [u8], sink: Sink, part: &[u8]) -> Sink {
     let one = put_as_one(out, sink, part);
     let two = put_as_two(out, one, part);
     put_as_three(out, two, part)
 }
 
 // A spec taken as one coordinate.
-fn put_as_one(out: &mut [u8], sink: Sink, part: &[u8]) -> Sink
-    requires { ⌜ sink .used ≤ length (now out) ⌝ }
-    ensures { λ r. ⌜ r .used ≤ length (now (out .exit)) ⌝ }
-{
+fn put_as_one(out: &mut [u8], sink: Sink, part: &[u8]) -> Sink {
     let i = put(out, sink, b" i ");
     let signed = put_coordinate(out, i, channel_spec::read_coordinate(part));
     let u = put(out, signed, b" u ");
@@ -231,10 +181,7 @@ fn put_as_one(out: &mut [u8], sink: Sink, part: &[u8]) -> Sink
 }
 
 // A spec taken as two coordinates.
-fn put_as_two(out: &mut [u8], sink: Sink, part: &[u8]) -> Sink
-    requires { ⌜ sink .used ≤ length (now out) ⌝ }
-    ensures { λ r. ⌜ r .used ≤ length (now (out .exit)) ⌝ }
-{
+fn put_as_two(out: &mut [u8], sink: Sink, part: &[u8]) -> Sink {
     let ii = put(out, sink, b" ii ");
     let signed = put_pair(out, ii, channel_spec::read_pair(part));
     let uu = put(out, signed, b" uu ");
@@ -242,40 +189,28 @@ fn put_as_two(out: &mut [u8], sink: Sink, part: &[u8]) -> Sink
 }
 
 // A spec taken as three coordinates.
-fn put_as_three(out: &mut [u8], sink: Sink, part: &[u8]) -> Sink
-    requires { ⌜ sink .used ≤ length (now out) ⌝ }
-    ensures { λ r. ⌜ r .used ≤ length (now (out .exit)) ⌝ }
-{
+fn put_as_three(out: &mut [u8], sink: Sink, part: &[u8]) -> Sink {
     let iii = put(out, sink, b" iii ");
     let signed = put_triple(out, iii, channel_spec::read_triple(part));
     let uuu = put(out, signed, b" uuu ");
     put_unsigned_triple(out, uuu, channel_spec::read_unsigned_triple(part))
 }
 
-fn put_coordinate(out: &mut [u8], sink: Sink, coordinate: Coordinate) -> Sink
-    requires { ⌜ sink .used ≤ length (now out) ⌝ }
-    ensures { λ r. ⌜ r .used ≤ length (now (out .exit)) ⌝ }
-{
+fn put_coordinate(out: &mut [u8], sink: Sink, coordinate: Coordinate) -> Sink {
     match coordinate {
         Coordinate::Value(n) => put_signed(out, sink, b"", n),
         Coordinate::Refused(e) => put_code(out, sink, b"!", e),
     }
 }
 
-fn put_unsigned_coordinate(out: &mut [u8], sink: Sink, coordinate: UnsignedCoordinate) -> Sink
-    requires { ⌜ sink .used ≤ length (now out) ⌝ }
-    ensures { λ r. ⌜ r .used ≤ length (now (out .exit)) ⌝ }
-{
+fn put_unsigned_coordinate(out: &mut [u8], sink: Sink, coordinate: UnsignedCoordinate) -> Sink {
     match coordinate {
         UnsignedCoordinate::Value(n) => put_number(out, sink, b"", n),
         UnsignedCoordinate::Refused(e) => put_code(out, sink, b"!", e),
     }
 }
 
-fn put_pair(out: &mut [u8], sink: Sink, pair: Pair) -> Sink
-    requires { ⌜ sink .used ≤ length (now out) ⌝ }
-    ensures { λ r. ⌜ r .used ≤ length (now (out .exit)) ⌝ }
-{
+fn put_pair(out: &mut [u8], sink: Sink, pair: Pair) -> Sink {
     match pair {
         Pair::Values(a, b) => {
             let first = put_signed(out, sink, b"(", a);
@@ -286,10 +221,7 @@ fn put_pair(out: &mut [u8], sink: Sink, pair: Pair) -> Sink
     }
 }
 
-fn put_unsigned_pair(out: &mut [u8], sink: Sink, pair: UnsignedPair) -> Sink
-    requires { ⌜ sink .used ≤ length (now out) ⌝ }
-    ensures { λ r. ⌜ r .used ≤ length (now (out .exit)) ⌝ }
-{
+fn put_unsigned_pair(out: &mut [u8], sink: Sink, pair: UnsignedPair) -> Sink {
     match pair {
         UnsignedPair::Values(a, b) => {
             let first = put_number(out, sink, b"(", a);
@@ -300,10 +232,7 @@ fn put_unsigned_pair(out: &mut [u8], sink: Sink, pair: UnsignedPair) -> Sink
     }
 }
 
-fn put_triple(out: &mut [u8], sink: Sink, triple: Triple) -> Sink
-    requires { ⌜ sink .used ≤ length (now out) ⌝ }
-    ensures { λ r. ⌜ r .used ≤ length (now (out .exit)) ⌝ }
-{
+fn put_triple(out: &mut [u8], sink: Sink, triple: Triple) -> Sink {
     match triple {
         Triple::Values(a, b, c) => {
             let first = put_signed(out, sink, b"(", a);
@@ -315,10 +244,7 @@ fn put_triple(out: &mut [u8], sink: Sink, triple: Triple) -> Sink
     }
 }
 
-fn put_unsigned_triple(out: &mut [u8], sink: Sink, triple: UnsignedTriple) -> Sink
-    requires { ⌜ sink .used ≤ length (now out) ⌝ }
-    ensures { λ r. ⌜ r .used ≤ length (now (out .exit)) ⌝ }
-{
+fn put_unsigned_triple(out: &mut [u8], sink: Sink, triple: UnsignedTriple) -> Sink {
     match triple {
         UnsignedTriple::Values(a, b, c) => {
             let first = put_number(out, sink, b"(", a);
@@ -331,27 +257,18 @@ fn put_unsigned_triple(out: &mut [u8], sink: Sink, triple: UnsignedTriple) -> Si
 }
 
 // A word and a view: `start..end`.
-fn put_view(out: &mut [u8], sink: Sink, word: &[u8], view: View) -> Sink
-    requires { ⌜ sink .used ≤ length (now out) ⌝ }
-    ensures { λ r. ⌜ r .used ≤ length (now (out .exit)) ⌝ }
-{
+fn put_view(out: &mut [u8], sink: Sink, word: &[u8], view: View) -> Sink {
     let start = put_number(out, sink, word, view.start as u64);
     put_number(out, start, b"..", view.end as u64)
 }
 
 // A word and the number of a refusal.
-fn put_code(out: &mut [u8], sink: Sink, word: &[u8], e: ErrorCode) -> Sink
-    requires { ⌜ sink .used ≤ length (now out) ⌝ }
-    ensures { λ r. ⌜ r .used ≤ length (now (out .exit)) ⌝ }
-{
+fn put_code(out: &mut [u8], sink: Sink, word: &[u8], e: ErrorCode) -> Sink {
     put_signed(out, sink, word, e.get_code() as i64)
 }
 
 // A word and a number, with a minus where it is below zero.
-fn put_signed(out: &mut [u8], sink: Sink, word: &[u8], n: i64) -> Sink
-    requires { ⌜ sink .used ≤ length (now out) ⌝ }
-    ensures { λ r. ⌜ r .used ≤ length (now (out .exit)) ⌝ }
-{
+fn put_signed(out: &mut [u8], sink: Sink, word: &[u8], n: i64) -> Sink {
     if n < 0 {
         let begun = put(out, sink, word);
         return put_number(out, begun, b"-", without_sign(n));
@@ -371,10 +288,7 @@ fn without_sign(n: i64) -> u64 {
 }
 
 // A word and a number.
-fn put_number(out: &mut [u8], sink: Sink, word: &[u8], n: u64) -> Sink
-    requires { ⌜ sink .used ≤ length (now out) ⌝ }
-    ensures { λ r. ⌜ r .used ≤ length (now (out .exit)) ⌝ }
-{
+fn put_number(out: &mut [u8], sink: Sink, word: &[u8], n: u64) -> Sink {
     let mut digits = [0u8; 20];
     let count = io::decimal(n, &mut digits);
     let begun = put(out, sink, word);

@@ -63,10 +63,13 @@ fn fill(input: &mut [u8]) -> usize
 }
 
 // Answers each line that ends in what was read. What stands behind the last newline is kept for the next time.
-fn take_lines(input: &[u8], state: State, line: &mut [u8], text: &mut [u8], out: &mut [u8]) -> State
-    requires { ⌜ state .sink .used ≤ length (now out) ⌝ }
-    ensures { λ r. ⌜ r .sink .used ≤ length (now (out .exit)) ⌝ }
-{
+fn take_lines(
+    input: &[u8],
+    state: State,
+    line: &mut [u8],
+    text: &mut [u8],
+    out: &mut [u8],
+) -> State {
     let mut held = state.held;
     let mut sink = state.sink;
     let mut at = 0;
@@ -124,9 +127,7 @@ fn copy(from: &[u8], to: &mut [u8], at: usize)
 }
 
 // Answers the last line, where it lacks its newline, and writes out what waits.
-fn finish(state: State, line: &[u8], text: &mut [u8], out: &mut [u8])
-    requires { ⌜ state .sink .used ≤ length (now out) ⌝ }
-{
+fn finish(state: State, line: &[u8], text: &mut [u8], out: &mut [u8]) {
     let sink = state.sink;
     if state.held == 0 {
         flush(out, sink);
@@ -136,20 +137,19 @@ fn finish(state: State, line: &[u8], text: &mut [u8], out: &mut [u8])
     flush(out, last);
 }
 
-fn flush(out: &[u8], sink: Sink)
-    requires { ⌜ sink .used ≤ length (now out) ⌝ }
-{
+fn flush(out: &[u8], sink: Sink) {
     let used = sink.used;
-    if sink.ok {
-        io::write_all(STDOUT_FILENO, &out[..used]);
+    if !sink.ok {
+        return;
     }
+    if out.len() < used {
+        return;
+    }
+    io::write_all(STDOUT_FILENO, &out[..used]);
 }
 
 // A line that is too long is no request.
-fn answer_line(line: &[u8], held: usize, text: &mut [u8], out: &mut [u8], sink: Sink) -> Sink
-    requires { ⌜ sink .used ≤ length (now out) ⌝ }
-    ensures { λ r. ⌜ r .used ≤ length (now (out .exit)) ⌝ }
-{
+fn answer_line(line: &[u8], held: usize, text: &mut [u8], out: &mut [u8], sink: Sink) -> Sink {
     if line.len() < held {
         return refuse(out, sink);
     }
@@ -157,10 +157,7 @@ fn answer_line(line: &[u8], held: usize, text: &mut [u8], out: &mut [u8], sink: 
 }
 
 // Answers a request line by its letter.
-fn respond(line: &[u8], text: &mut [u8], out: &mut [u8], sink: Sink) -> Sink
-    requires { ⌜ sink .used ≤ length (now out) ⌝ }
-    ensures { λ r. ⌜ r .used ≤ length (now (out .exit)) ⌝ }
-{
+fn respond(line: &[u8], text: &mut [u8], out: &mut [u8], sink: Sink) -> Sink {
     let letter = request::field(line, 0);
     let at = letter.start;
     if line.len() <= at {
@@ -176,10 +173,7 @@ fn respond(line: &[u8], text: &mut [u8], out: &mut [u8], sink: Sink) -> Sink
 }
 
 // M, a name and a word: what mnemonic_match and mnemonic_compare say of them.
-fn names(line: &[u8], at: usize, text: &mut [u8], out: &mut [u8], sink: Sink) -> Sink
-    requires { ⌜ sink .used ≤ length (now out) ⌝ }
-    ensures { λ r. ⌜ r .used ≤ length (now (out .exit)) ⌝ }
-{
+fn names(line: &[u8], at: usize, text: &mut [u8], out: &mut [u8], sink: Sink) -> Sink {
     let name = take_text(line, at, text, 0);
     if !name.ok {
         return refuse(out, sink);
@@ -214,10 +208,7 @@ fn respond_text(
     text: &mut [u8],
     out: &mut [u8],
     sink: Sink,
-) -> Sink
-    requires { ⌜ sink .used ≤ length (now out) ⌝ }
-    ensures { λ r. ⌜ r .used ≤ length (now (out .exit)) ⌝ }
-{
+) -> Sink {
     let taken = take_text(line, at, text, 0);
     if !taken.ok {
         return refuse(out, sink);
@@ -230,10 +221,7 @@ fn respond_text(
 }
 
 // T and D: the tokens of a message, and of data alone. C and N: the items of a channel list, and of a numeric list.
-fn answer_text(letter: u8, text: &[u8], out: &mut [u8], sink: Sink) -> Sink
-    requires { ⌜ sink .used ≤ length (now out) ⌝ }
-    ensures { λ r. ⌜ r .used ≤ length (now (out .exit)) ⌝ }
-{
+fn answer_text(letter: u8, text: &[u8], out: &mut [u8], sink: Sink) -> Sink {
     match letter {
         b'T' => put_steps(text, tokenizer::new(), out, sink),
         b'D' => put_steps(text, tokenizer::new_params(), out, sink),
@@ -245,10 +233,7 @@ fn answer_text(letter: u8, text: &[u8], out: &mut [u8], sink: Sink) -> Sink
 
 // Adds the part of each step, up to the end of the text or a refusal. A text of n bytes gives at most n tokens or
 // refusals before its end, so n + 1 turns are enough.
-fn put_steps(text: &[u8], start: tokenizer::State, out: &mut [u8], sink: Sink) -> Sink
-    requires { ⌜ sink .used ≤ length (now out) ⌝ }
-    ensures { λ r. ⌜ r .used ≤ length (now (out .exit)) ⌝ }
-{
+fn put_steps(text: &[u8], start: tokenizer::State, out: &mut [u8], sink: Sink) -> Sink {
     let mut state = start;
     let mut last = sink;
     let mut turn = 0;
@@ -265,10 +250,7 @@ fn put_steps(text: &[u8], start: tokenizer::State, out: &mut [u8], sink: Sink) -
 }
 
 // Adds the part of a step.
-fn put_step(step: Step, out: &mut [u8], sink: Sink) -> Sink
-    requires { ⌜ sink .used ≤ length (now out) ⌝ }
-    ensures { λ r. ⌜ r .used ≤ length (now (out .exit)) ⌝ }
-{
+fn put_step(step: Step, out: &mut [u8], sink: Sink) -> Sink {
     let mut part = [0u8; 128];
     let n = report::token_part(step, &mut part);
     put(out, sink, &part[..n])
@@ -326,22 +308,19 @@ fn is_last(line: &[u8], at: usize) -> bool {
 }
 
 // The answer to a line that is no request.
-fn refuse(out: &mut [u8], sink: Sink) -> Sink
-    requires { ⌜ sink .used ≤ length (now out) ⌝ }
-    ensures { λ r. ⌜ r .used ≤ length (now (out .exit)) ⌝ }
-{
+fn refuse(out: &mut [u8], sink: Sink) -> Sink {
     put(out, sink, b"request?\n")
 }
 
 // Adds an answer, or a part of one, to what waits, which is written out first where there is no room. Once a
 // write has failed nothing more is written.
-fn put(out: &mut [u8], sink: Sink, answer: &[u8]) -> Sink
-    requires { ⌜ sink .used ≤ length (now out) ⌝ }
-    ensures { λ r. ⌜ r .used ≤ length (now (out .exit)) ⌝ }
-{
+fn put(out: &mut [u8], sink: Sink, answer: &[u8]) -> Sink {
     let used = sink.used;
     if !sink.ok {
         return sink;
+    }
+    if out.len() < used {
+        return Sink { used: 0, ok: false };
     }
     if answer.len() <= out.len() - used {
         copy(answer, out, used);

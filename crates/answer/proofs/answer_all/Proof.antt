@@ -1,4 +1,3 @@
-use Prim.Native.Nat.{_≤_}
 use mathlib.Core.Path.{_≡_}
 use lib.ListN.{length}
 use Rattle.answer.proofs.Laws.{laws}
@@ -7,7 +6,7 @@ use Rattle.answer.proofs.answer_all.Tie as tie
 
 abbrev Inv-loop : tie.InvT-loop
 Inv-loop input₀ line₀ text₀ out₀ turns₀ state₀ input line text out turns state =
-    (state .sink .used ≤ length out) × (length input ≡ length input₀) × (length line ≡ length line₀) × (length text ≡ length text₀) × (length out ≡ length out₀)
+    (length input ≡ length input₀) × (length line ≡ length line₀) × (length text ≡ length text₀) × (length out ≡ length out₀)
 
 abbrev μ-loop : tie.MeasureT-loop
 μ-loop input₀ line₀ text₀ out₀ turns₀ state₀ input line text out turns state = turns

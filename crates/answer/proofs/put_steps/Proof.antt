@@ -1,15 +1,15 @@
-use Prim.Native.Nat.{_+_, _-_, _≤_}
 use mathlib.Core.Path.{_≡_}
+use Prim.Native.Nat.{suc, _-_}
 use lib.ListN.{length}
 use Rattle.answer.proofs.Laws.{laws}
 use Rattle.answer.proofs.put_steps.Statement.{statement}
 use Rattle.answer.proofs.put_steps.Tie as tie
 
 abbrev Inv-loop : tie.InvT-loop
-Inv-loop text out₀ state₀ last₀ turn₀ out state last turn = (last .used ≤ length out) × (length out ≡ length out₀)
+Inv-loop text out₀ state₀ last₀ turn₀ out state last turn = length out ≡ length out₀
 
 abbrev μ-loop : tie.MeasureT-loop
-μ-loop text out₀ state₀ last₀ turn₀ out state last turn = length text + 1 - turn
+μ-loop text out₀ state₀ last₀ turn₀ out state last turn = suc (length text) - turn
 
 loop-holds : tie.Need-loop-holds Inv-loop μ-loop
 loop-holds c = search laws

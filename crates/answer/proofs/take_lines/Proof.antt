@@ -1,13 +1,12 @@
 use mathlib.Core.Path.{_≡_}
-use Prim.Native.Nat.{_-_, _≤_}
+use Prim.Native.Nat.{_-_}
 use lib.ListN.{length}
 use Rattle.answer.proofs.Laws.{laws}
 use Rattle.answer.proofs.take_lines.Statement.{statement}
 use Rattle.answer.proofs.take_lines.Tie as tie
 
 abbrev Inv-loop : tie.InvT-loop
-Inv-loop input line₀ text₀ out₀ held₀ sink₀ at₀ line text out held sink at =
-    (sink .used ≤ length out) × (length line ≡ length line₀) × (length text ≡ length text₀) × (length out ≡ length out₀)
+Inv-loop input line₀ text₀ out₀ held₀ sink₀ at₀ line text out held sink at = (length line ≡ length line₀) × (length text ≡ length text₀) × (length out ≡ length out₀)
 
 abbrev μ-loop : tie.MeasureT-loop
 μ-loop input line₀ text₀ out₀ held₀ sink₀ at₀ line text out held sink at = length input - at

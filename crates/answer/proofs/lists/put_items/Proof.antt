@@ -1,15 +1,15 @@
-use Prim.Native.Nat.{_+_, _-_, _≤_}
 use mathlib.Core.Path.{_≡_}
+use Prim.Native.Nat.{suc, _-_}
 use lib.ListN.{length}
 use Rattle.answer.proofs.Laws.{laws}
 use Rattle.answer.proofs.lists.put_items.Statement.{statement}
 use Rattle.answer.proofs.lists.put_items.Tie as tie
 
 abbrev Inv-loop : tie.InvT-loop
-Inv-loop out₀ part last₀ place₀ turn₀ t12 out last place turn = (last .used ≤ length out) × (length out ≡ length out₀)
+Inv-loop out₀ part last₀ place₀ turn₀ t12 out last place turn = length out ≡ length out₀
 
 abbrev μ-loop : tie.MeasureT-loop
-μ-loop out₀ part last₀ place₀ turn₀ t12 out last place turn = length part + 1 - turn
+μ-loop out₀ part last₀ place₀ turn₀ t12 out last place turn = suc (length part) - turn
 
 slice-aggregate-put : tie.Need-slice-aggregate-put Inv-loop μ-loop
 slice-aggregate-put c = search laws

@@ -3,13 +3,13 @@ use crate::Sink;
 use crate::put;
 use channel_list::Opened;
 use channel_spec::ChannelSpec;
-use channel_spec::Coordinate;
 use channel_spec::Item;
-use channel_spec::Pair;
-use channel_spec::Triple;
-use channel_spec::UnsignedCoordinate;
-use channel_spec::UnsignedPair;
-use channel_spec::UnsignedTriple;
+use coordinate::Coordinate;
+use coordinate::Pair;
+use coordinate::Triple;
+use coordinate::UnsignedCoordinate;
+use coordinate::UnsignedPair;
+use coordinate::UnsignedTriple;
 use error::ErrorCode;
 use token::View;
 
@@ -175,25 +175,25 @@ fn put_coordinates(out: &mut [u8], sink: Sink, part: &[u8]) -> Sink {
 // A spec taken as one coordinate.
 fn put_as_one(out: &mut [u8], sink: Sink, part: &[u8]) -> Sink {
     let i = put(out, sink, b" i ");
-    let signed = put_coordinate(out, i, channel_spec::read_coordinate(part));
+    let signed = put_coordinate(out, i, coordinate::read_coordinate(part));
     let u = put(out, signed, b" u ");
-    put_unsigned_coordinate(out, u, channel_spec::read_unsigned_coordinate(part))
+    put_unsigned_coordinate(out, u, coordinate::read_unsigned_coordinate(part))
 }
 
 // A spec taken as two coordinates.
 fn put_as_two(out: &mut [u8], sink: Sink, part: &[u8]) -> Sink {
     let ii = put(out, sink, b" ii ");
-    let signed = put_pair(out, ii, channel_spec::read_pair(part));
+    let signed = put_pair(out, ii, coordinate::read_pair(part));
     let uu = put(out, signed, b" uu ");
-    put_unsigned_pair(out, uu, channel_spec::read_unsigned_pair(part))
+    put_unsigned_pair(out, uu, coordinate::read_unsigned_pair(part))
 }
 
 // A spec taken as three coordinates.
 fn put_as_three(out: &mut [u8], sink: Sink, part: &[u8]) -> Sink {
     let iii = put(out, sink, b" iii ");
-    let signed = put_triple(out, iii, channel_spec::read_triple(part));
+    let signed = put_triple(out, iii, coordinate::read_triple(part));
     let uuu = put(out, signed, b" uuu ");
-    put_unsigned_triple(out, uuu, channel_spec::read_unsigned_triple(part))
+    put_unsigned_triple(out, uuu, coordinate::read_unsigned_triple(part))
 }
 
 fn put_coordinate(out: &mut [u8], sink: Sink, coordinate: Coordinate) -> Sink {

@@ -5,12 +5,11 @@ use mathlib.Core.List.{List, []}
 use mathlib.Core.Bool.{Bool, true, false, not, _&&_}
 use mathlib.Core.Logic.{⊎-elim}
 use native.Mathlib.Omega.{arith}
-use native.Mathlib.Numerals.{add-one}
-use lib.Dec.{eqb, leb, ltb}
+use lib.Dec.{eqb, leb}
 use lib.ListN.{length, getD, take, drop, drop-of-length-le}
 use lib.Seq.{drop-cons, take-nil}
 use borrow.Author.Needs.{needs}
-use borrow.Author.Tests.{eq-eqb, ne-eqb, lt-ltb, not-true, not-false}
+use borrow.Author.Tests.{eq-eqb, ne-eqb, not-true, not-false}
 use mir.Syntax.{w64}
 use mir.Val.{Fits}
 use Rattle.kind.specs.Class.{isDigit, isSign}
@@ -44,22 +43,6 @@ module _ (b : ℕ) where
   pub bang-none′ : (b ≡ 33 → ⊥) → 0 ≡ bang b
   unfolding bang
   bang-none′ n = rw (ne-eqb b 33 n)
-
--- a `!` from a place on, as the loop that looks for one meets it
-module _ (s : List ℕ) (at i : ℕ) (inv : bangs (drop at s) ≡ bangs (drop i s)) where
-  pub bang-found′ : i < length s → getD s i 0 ≡ 33 → true ≡ ltb 0 (bangs (drop at s))
-  unfolding bangs
-  bang-found′ h e =
-      let n : bangs (drop at s) ≡ 1 + bangs (drop (suc i) s) = inv ∙ rw (drop-cons s i 0 h, ← bang-there′ (getD s i 0) e) in
-      sym (lt-ltb 0 (bangs (drop at s)) (omega (arith, n)))
-
-  pub bang-passed′ : (j : ℕ) → i < length s → (getD s i 0 ≡ 33 → ⊥) → j ≡ i + 1 → bangs (drop at s) ≡ bangs (drop j s)
-  unfolding bangs
-  bang-passed′ j h n e = inv ∙ rw (e, add-one, drop-cons s i 0 h, ← bang-none′ (getD s i 0) n) (omega arith)
-
-  pub bang-nowhere′ : length s ≤ i → false ≡ ltb 0 (bangs (drop at s))
-  unfolding bangs
-  bang-nowhere′ h = rw (inv, drop-of-length-le s h)
 
 -- the characters of a spec at the front of a text
 abbrev pub front : List ℕ → List ℕ
@@ -141,4 +124,4 @@ module _ (end dimension k b : ℕ) (most : dimension ≤ end + 1) (ek : k ≡ ba
   pub dimension-on′ : (j : ℕ) → j ≡ end + 1 → dimension + k ≤ j + 1
   dimension-on′ j e = omega (arith, ek, bang-most b)
 
-pub ruleset laws = (needs, digit-in′, sign-in′, bang-in′, bang-there′, bang-none′, bang-found′, bang-passed′, bang-nowhere′, spec-stop′, spec-past′, runs-on′, counts-on′, dimension-fits′, dimension-on′)
+pub ruleset laws = (needs, digit-in′, sign-in′, bang-in′, bang-there′, bang-none′, spec-stop′, spec-past′, runs-on′, counts-on′, dimension-fits′, dimension-on′)

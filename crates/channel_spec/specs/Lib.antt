@@ -1,6 +1,2 @@
 pub mod Spec
 pub mod Item
-pub mod Coordinate
-pub mod Reading
-pub mod Form
-pub mod Claims

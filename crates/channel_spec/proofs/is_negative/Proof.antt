@@ -1,9 +1,0 @@
-use Rattle.channel_spec.proofs.Unsigned.{sizes}
-use Rattle.channel_spec.proofs.is_negative.Statement.{statement}
-use Rattle.channel_spec.proofs.is_negative.Tie as tie
-
-returns : tie.Need-returns
-returns c = search sizes
-
-pub is-negative-spec : {M : Type 1} → statement M
-is-negative-spec = tie.close (tie.spec returns)

@@ -1,0 +1,270 @@
+-- A signed integer in a text: what was read has the form of the grammar, and what has the form is read with that value.
+use Prim.Native.Nat.{ℕ, zero, suc, _+_, _-_, _^_, _≤_, _<_}
+use mathlib.Core.Path.{_≡_, refl, sym, ap, _∙_, fun-ext}
+use mathlib.Core.List.{List, [], _∷_, _++_, append-assoc}
+use mathlib.Core.Option.{Option, none, some}
+use mathlib.Core.Bool.{Bool, true, false, cond, false≢true, and-false}
+use mathlib.Core.Logic.{⊎-elim}
+use native.Mathlib.Omega.{arith}
+use lib.Dec.{eqb, ltb, leb}
+use lib.IntN.{ℤ, pos, negℤ}
+use lib.Signed.{mag}
+use lib.ListN.{length, getD, drop, take-append-drop, length-append}
+use lib.Seq.{drop-drop, take-append-seam}
+use borrow.Author.Tests.{eq-eqb, ne-eqb, le-leb, leb-true, lt-ltb, ltb-true}
+use Rattle.kind.specs.Class.{isDigit}
+use Rattle.kind.proofs.Tests.{and-left, less-or-not}
+use Rattle.util.specs.Run.{run, runEnd, signEnd, standsAt, every}
+use Rattle.util.proofs.Runs.{run-again}
+use Rattle.util.proofs.Every.{run-whole}
+use Rattle.number.specs.Digit.{isDigitOf, valueOf}
+use Rattle.number.specs.Number.{digits, foundAt, unsignedOf, unsignedAt, signedOf, signedAt}
+use Rattle.number.specs.declared.Unsigned.the-variants as unsigned
+use Rattle.number.specs.declared.Signed.{Signed}
+use Rattle.number.specs.declared.Signed.the-variants as signed
+use Rattle.number.proofs.Digits.{decimal}
+use Rattle.data.specs.Decimal.{wholeEnd}
+use Rattle.data.specs.Form.{Whole}
+use Rattle.coordinate.specs.Form.{signedBy, Decimal}
+use Rattle.data.proofs.Accepted.{part}
+use Rattle.data.proofs.Progress.{whole-from}
+use Rattle.data.proofs.Seams.{none-first, here-get, here-inside, here-next}
+use Rattle.data.proofs.Numbers.{whole-sign}
+use Rattle.data.proofs.NumberForms.{whole-form, whole-count}
+
+-- the value of a sign and a number, where it is one of 64 bits
+abbrev worth : Bool → ℕ → Option ℤ
+worth true n = cond (leb n (2 ^ 63)) (some (negℤ (pos n))) none
+worth false n = cond (ltb n (2 ^ 63)) (some (pos n)) none
+
+abbrev bounded : Bool → ℕ → Option ℤ
+bounded minus n = cond (ltb n (2 ^ 64)) (worth minus n) none
+
+-- that value, with the place behind it
+abbrev asSigned : Option ℤ → ℕ → Signed
+asSigned none end = signed.TooLarge
+asSigned (some v) end = signed.Value v end
+
+decimal-digits : isDigitOf 10 ≡ isDigit
+decimal-digits = fun-ext decimal
+
+-- a value that is there
+module _ {A : Type 0} where
+  abbrev isSome : Option A → Bool
+  isSome none = false
+  isSome (some v) = true
+
+  abbrev valueOr : A → Option A → A
+  valueOr w none = w
+  valueOr w (some v) = v
+
+  pub none-some : {v : A} → none ≡ some v → ⊥
+  none-some e = false≢true (ap isSome e)
+
+  pub some-same : {v w : A} → some v ≡ some w → v ≡ w
+  some-same {v = v} e = ap (valueOr v) e
+
+mag-negative : (n : ℕ) → n ≤ 2 ^ 63 → mag (negℤ (pos n)) < 2 ^ 63
+mag-negative zero h = omega arith
+mag-negative (suc n) h = omega (arith, h)
+
+-- the value is one of 64 bits exactly where it is within their bounds
+abbrev signedWith : Bool → ℕ → ℤ
+signedWith minus n = cond minus (negℤ (pos n)) (pos n)
+
+bounds : (minus : Bool) (n : ℕ) → mag (signedWith minus n) < 2 ^ 63 → bounded minus n ≡ some (signedWith minus n)
+bounds true zero h = refl
+bounds true (suc n) h =
+    let k : suc n ≤ 2 ^ 63 = omega (arith, h) in
+    let l : suc n < 2 ^ 64 = omega (arith, h) in
+    rw (lt-ltb (suc n) (2 ^ 64) l, le-leb (suc n) (2 ^ 63) k)
+bounds false n h =
+    let l : n < 2 ^ 64 = omega (arith, h) in
+    rw (lt-ltb n (2 ^ 64) l, lt-ltb n (2 ^ 63) h)
+
+within : (minus : Bool) (n : ℕ) (v : ℤ) → bounded minus n ≡ some v → (v ≡ signedWith minus n) × (mag v < 2 ^ 63)
+within minus n v e = go minus (ltb n (2 ^ 64)) e
+  where
+    below : (c : Bool) → leb n (2 ^ 63) ≡ c → cond c (some (negℤ (pos n))) none ≡ some v → (v ≡ negℤ (pos n)) × (mag v < 2 ^ 63)
+    below true f q = (sym (some-same q), rw (← some-same q) (mag-negative n (leb-true n (2 ^ 63) f)))
+    below false f q = absurd (none-some q)
+
+    above : (c : Bool) → ltb n (2 ^ 63) ≡ c → cond c (some (pos n)) none ≡ some v → (v ≡ pos n) × (mag v < 2 ^ 63)
+    above true f q = (sym (some-same q), rw (← some-same q) (ltb-true n (2 ^ 63) f))
+    above false f q = absurd (none-some q)
+
+    go : (m c : Bool) → cond c (worth m n) none ≡ some v → (v ≡ signedWith m n) × (mag v < 2 ^ 63)
+    go true true q = below (leb n (2 ^ 63)) refl q
+    go false true q = above (ltb n (2 ^ 63)) refl q
+    go true false q = absurd (none-some q)
+    go false false q = absurd (none-some q)
+
+-- digits, one at least, with a sign before them
+module _ (minus : Bool) (at : ℕ) (ds : List ℕ) (h : 0 < length ds) where
+  some-digits : signedOf minus (unsignedOf 10 at ds) ≡ asSigned (bounded minus (valueOf 10 ds)) (at + length ds)
+  unfolding unsignedOf foundAt signedOf
+  some-digits =
+      let e : eqb (at + length ds) at ≡ false = ne-eqb (at + length ds) at (λ q. omega (arith, h, q)) in
+      rw e (go minus (ltb (valueOf 10 ds) (2 ^ 64)))
+    where
+      n : ℕ
+      n = valueOf 10 ds
+
+      end : ℕ
+      end = at + length ds
+
+      go : (m c : Bool) → signedOf m (cond c (unsigned.Value n end) unsigned.TooLarge) ≡ asSigned (cond c (worth m n) none) end
+      go true true = below (leb n (2 ^ 63))
+        where
+          below : (d : Bool) → cond d (signed.Value (negℤ (pos n)) end) signed.TooLarge ≡ asSigned (cond d (some (negℤ (pos n))) none) end
+          below true = refl
+          below false = refl
+      go false true = above (ltb n (2 ^ 63))
+        where
+          above : (d : Bool) → cond d (signed.Value (pos n) end) signed.TooLarge ≡ asSigned (cond d (some (pos n)) none) end
+          above true = refl
+          above false = refl
+      go true false = refl
+      go false false = refl
+
+no-minus : (b : ℕ) → isDigit b ≡ true → eqb b 45 ≡ false
+unfolding isDigit
+no-minus b d = ne-eqb b 45 (λ e. omega (arith, leb-true 48 b (and-left (leb 48 b) (leb b 57) d), e))
+
+-- the sign of an integer, told from the text that it begins
+sign-here : (s : List ℕ) (at : ℕ) (x y : List ℕ) → drop at s ≡ x ++ y → length x ≤ 1 → isDigit (getD y 0 0) ≡ true → standsAt 45 s at ≡ standsAt 45 x 0
+unfolding standsAt
+sign-here s at [] y h k d = rw (here-get s at y h, no-minus (getD y 0 0) d, and-false (ltb at (length s)))
+sign-here s at (c ∷ []) y h k d = rw (lt-ltb at (length s) (here-inside s at c y h), here-get s at (c ∷ y) h)
+sign-here s at (c ∷ e ∷ x) y h k d = absurd (omega (arith, k))
+
+first-digit : (ds y : List ℕ) → 0 < length ds → every isDigit ds ≡ true → isDigit (getD (ds ++ y) 0 0) ≡ true
+unfolding every
+first-digit [] y h a = absurd (omega (arith, h))
+first-digit (d ∷ ds) y h a = and-left (isDigit d) (every isDigit ds) a
+
+-- An integer that begins at a place, with no digit behind it.
+module _ (s : List ℕ) (at : ℕ) (w y : List ℕ) (h : drop at s ≡ w ++ y) (f : Whole w)
+    (some-digit : 0 < length (f .digits)) (stops : isDigit (getD y 0 0) ≡ false) where
+  apart : drop at s ≡ f .sign ++ (f .digits ++ y)
+  apart = h ∙ ap (λ (x : List ℕ). x ++ y) (f .parts) ∙ append-assoc (f .sign) (f .digits) y
+
+  behind-sign : signEnd s at ≡ at + length (f .sign)
+  behind-sign = whole-sign s at w y h f stops (λ z. absurd (omega (arith, some-digit, z)))
+
+  all-digits : digits 10 (drop (signEnd s at) s) ≡ f .digits
+  unfolding digits
+  all-digits =
+      let e : drop (signEnd s at) s ≡ f .digits ++ y = rw behind-sign (here-next s at (f .sign) (f .digits ++ y) apart) in
+      rw (e, decimal-digits, run-whole isDigit (f .digits) y (f .all-digit) (none-first isDigit y stops)) (take-append-seam (f .digits) y)
+
+  integer-read : signedAt s at ≡ asSigned (bounded (standsAt 45 (f .sign) 0) (valueOf 10 (f .digits))) (at + length w)
+  unfolding signedAt unsignedAt
+  integer-read =
+      let k : at + length (f .sign) + length (f .digits) ≡ at + length w = omega (arith, ap length (f .parts), length-append (f .sign) (f .digits)) in
+      rw (sign-here s at (f .sign) (f .digits ++ y) apart (f .one-sign) (first-digit (f .digits) y some-digit (f .all-digit)), all-digits, behind-sign)
+      (some-digits (standsAt 45 (f .sign) 0) (at + length (f .sign)) (f .digits) some-digit ∙ rw k)
+
+-- An integer that was read at a place, and what the text is from there on.
+pub record Read (s : List ℕ) (at : ℕ) (v : ℤ) (end : ℕ) : Type 0 where
+  pub word : List ℕ
+  pub rest : List ℕ
+  pub parts : drop at s ≡ word ++ rest
+  pub decimal : Decimal word v
+  pub stops : isDigit (getD rest 0 0) ≡ false
+  pub behind : end ≡ at + length word
+
+-- what was read is an integer in decimal, and the other way round
+written-decimal : {t : List ℕ} {v : ℤ} (f : Whole t) → 0 < length (f .digits) → bounded (standsAt 45 (f .sign) 0) (valueOf 10 (f .digits)) ≡ some v → Decimal t v
+unfolding signedBy
+written-decimal {v = v} f h e =
+    let k = within (standsAt 45 (f .sign) 0) (valueOf 10 (f .digits)) v e in
+    record { form = f; some-digit = h; value = k .0; fits = k .1 }
+
+decimal-worth : {t : List ℕ} {v : ℤ} (d : Decimal t v) → bounded (standsAt 45 (d .form .sign) 0) (valueOf 10 (d .form .digits)) ≡ some v
+unfolding signedBy
+decimal-worth {v = v} d =
+    bounds (standsAt 45 (d .form .sign) 0) (valueOf 10 (d .form .digits)) (rw (d .value) at (d .fits)) ∙ ap some (sym (d .value))
+
+-- it has a byte at least
+pub some-byte : (t : List ℕ) (v : ℤ) → Decimal t v → 0 < length t
+some-byte t v d =
+    omega (arith, ap length (d .form .parts), length-append (d .form .sign) (d .form .digits), d .some-digit)
+
+pub decimal-read : (s : List ℕ) (at : ℕ) (w y : List ℕ) → drop at s ≡ w ++ y → (v : ℤ) → Decimal w v → isDigit (getD y 0 0) ≡ false → signedAt s at ≡ signed.Value v (at + length w)
+decimal-read s at w y h v d stops =
+    integer-read s at w y h (d .form) (d .some-digit) stops ∙ ap (λ (o : Option ℤ). asSigned o (at + length w)) (decimal-worth d)
+
+abbrev valueIn : Signed → Option ℤ
+valueIn (signed.Value v end) = some v
+valueIn signed.NoDigit = none
+valueIn signed.TooLarge = none
+
+abbrev endIn : Signed → ℕ
+endIn (signed.Value v end) = end
+endIn signed.NoDigit = 0
+endIn signed.TooLarge = 0
+
+abbrev pub isValue : Signed → Bool
+isValue (signed.Value v end) = true
+isValue signed.NoDigit = false
+isValue signed.TooLarge = false
+
+value-same : (o : Option ℤ) (i : ℕ) (v : ℤ) (end : ℕ) → asSigned o i ≡ signed.Value v end → (o ≡ some v) × (i ≡ end)
+value-same none i v end e = absurd (false≢true (ap isValue e))
+value-same (some w) i v end e = (ap valueIn e, ap endIn e)
+
+none-there : (p : ℕ → Bool) → p 0 ≡ false → (t : List ℕ) → run p t ≡ 0 → p (getD t 0 0) ≡ false
+unfolding run
+none-there p z [] e = z
+none-there p z (b ∷ t) e = go (p b) e
+  where
+    go : (c : Bool) → cond c (suc (run p t)) 0 ≡ 0 → c ≡ false
+    go true q = absurd (omega (arith, q))
+    go false q = refl
+
+run-none : (p : ℕ → Bool) (s : List ℕ) (i : ℕ) → runEnd p s i ≡ i → run p (drop i s) ≡ 0
+unfolding runEnd
+run-none p s i e = omega (arith, e)
+
+module _ (s : List ℕ) (at : ℕ) where
+  width : wholeEnd s at - signEnd s at ≡ 0 → run isDigit (drop (signEnd s at) s) ≡ 0
+  unfolding wholeEnd runEnd
+  width k = omega (arith, k)
+
+  no-digits : length (whole-form s at .digits) ≡ 0 → signedAt s at ≡ signed.NoDigit
+  unfolding signedAt unsignedAt unsignedOf foundAt signedOf digits valueOf
+  no-digits e =
+      let z : run isDigit (drop (signEnd s at) s) ≡ 0 = width (sym (whole-count s at) ∙ e) in
+      rw (decimal-digits, z, eq-eqb (signEnd s at + 0) (signEnd s at) (omega arith))
+
+  behind-whole : drop at s ≡ part s at (wholeEnd s at) ++ drop (wholeEnd s at) s
+  behind-whole =
+      let f : at + (wholeEnd s at - at) ≡ wholeEnd s at = omega (arith, whole-from s at) in
+      sym (take-append-drop (wholeEnd s at - at) (drop at s)) ∙ ap (λ (x : List ℕ). part s at (wholeEnd s at) ++ x) (drop-drop (wholeEnd s at - at) at s ∙ rw f)
+
+  whole-ends : runEnd isDigit s (wholeEnd s at) ≡ wholeEnd s at
+  unfolding wholeEnd
+  whole-ends = run-again isDigit s (signEnd s at)
+
+  stopped : isDigit (getD (drop (wholeEnd s at) s) 0 0) ≡ false
+  unfolding isDigit
+  stopped = none-there isDigit refl (drop (wholeEnd s at) s) (run-none isDigit s (wholeEnd s at) whole-ends)
+
+  pub integer-form : (v : ℤ) (end : ℕ) → signedAt s at ≡ signed.Value v end → Read s at v end
+  integer-form v end e = ⊎-elim found none-found (less-or-not 0 (length (whole-form s at .digits)))
+    where
+      found : 0 < length (whole-form s at .digits) → Read s at v end
+      found h =
+          let k = value-same _ _ v end (sym (integer-read s at (part s at (wholeEnd s at)) (drop (wholeEnd s at) s) behind-whole (whole-form s at) h stopped) ∙ e) in
+          record {
+            word = part s at (wholeEnd s at);
+            rest = drop (wholeEnd s at) s;
+            parts = behind-whole;
+            decimal = written-decimal (whole-form s at) h (k .0);
+            stops = stopped;
+            behind = sym (k .1);
+          }
+
+      none-found : length (whole-form s at .digits) ≤ 0 → Read s at v end
+      none-found h = absurd (false≢true (ap isValue (sym (no-digits (omega (arith, h))) ∙ e)))

@@ -1,0 +1,7 @@
+-- Laws that belong to no one function.
+pub mod Integers
+pub mod Parts
+pub mod Bangs
+pub mod Coordinates
+pub mod Unsigned
+pub mod Claims

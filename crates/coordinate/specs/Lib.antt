@@ -1,0 +1,4 @@
+pub mod Coordinate
+pub mod Reading
+pub mod Form
+pub mod Claims

@@ -5,7 +5,7 @@ use mathlib.Core.List.{List}
 use native.Mathlib.Nat.{le-trans}
 use lib.ListN.{length, take}
 use borrow.Author.Needs.{needs}
-use Rattle.util.proofs.Compare.{part-long′}
+use Rattle.mnemonic.proofs.Compare.{part-long′}
 use Rattle.request.specs.Unhex.{unhexed}
 use Rattle.request.specs.declared.Text.{Text}
 use Rattle.request.specs.declared.Text.the-variants.{Until}

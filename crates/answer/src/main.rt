@@ -195,8 +195,8 @@ fn name_answer(text: &[u8], n: usize, m: usize) -> [u8; 18]
     let name = &text[..n];
     let word = &text[n..m];
     report::names(
-        util::mnemonic_match(name, word),
-        util::mnemonic_compare(name, word),
+        mnemonic::mnemonic_match(name, word),
+        mnemonic::mnemonic_compare(name, word),
     )
 }
 

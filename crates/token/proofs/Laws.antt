@@ -6,7 +6,7 @@ use mathlib.Core.Bool.{Bool}
 use lib.ListN.{length, take, drop}
 use borrow.Author.Needs.{needs}
 use borrow.Author.Tests.{le-leb, lt-leb}
-use Rattle.util.specs.Mnemonic.{matches}
+use Rattle.mnemonic.specs.Mnemonic.{matches}
 use Rattle.token.specs.View.{partOf}
 use Rattle.token.specs.Token.{viewIn, matchesHeader}
 use Rattle.token.specs.declared.View.{View}

@@ -93,8 +93,8 @@ impl Token {
         ensures { λ r. ⌜ r ≡ matchesHeader (now (mnemonic .entry)) (now (s .entry)) self ⌝ }
     {
         match self {
-            Token::ProgramMnemonic(word) => util::mnemonic_match(mnemonic, part(s, word)),
-            Token::CharacterProgramData(word) => util::mnemonic_match(mnemonic, part(s, word)),
+            Token::ProgramMnemonic(word) => mnemonic::mnemonic_match(mnemonic, part(s, word)),
+            Token::CharacterProgramData(word) => mnemonic::mnemonic_match(mnemonic, part(s, word)),
             Token::HeaderMnemonicSeparator => false,
             Token::HeaderQuerySuffix => false,
             Token::ProgramMessageUnitSeparator => false,

@@ -2,11 +2,3 @@
 pub mod Runs
 pub mod Every
 pub mod Walks
-pub mod Pairs
-pub mod Bytes
-pub mod Split
-pub mod Compare
-pub mod Match
-pub mod Alike
-pub mod Spelling
-pub mod Claims

@@ -1,5 +1,2 @@
 pub mod Run
 pub mod Walk
-pub mod Mnemonic
-pub mod Spelling
-pub mod Claims

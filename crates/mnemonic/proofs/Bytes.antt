@@ -1,0 +1,83 @@
+-- Laws of the classes of single characters.
+use Prim.Native.Nat.{ℕ, _+_}
+use mathlib.Core.Path.{_≡_, sym, _∙_}
+use mathlib.Core.List.{List, [], _∷_}
+use mathlib.Core.Bool.{Bool, true, false, not, and-true}
+use native.Mathlib.Omega.{arith}
+use lib.Dec.{eqb, leb}
+use lib.ListN.{length, getD}
+use mir.Syntax.{w8}
+use mir.Val.{Fits}
+use borrow.Author.Needs.{needs}
+use borrow.Author.Tests.{leb-true}
+use Rattle.kind.specs.Class.{isCapital, isSmall, isDigit}
+use Rattle.kind.proofs.Tests.{and-right}
+use Rattle.kind.proofs.Classes.{small-no-capital, small-no-digit, digit-no-capital, capital-no-small}
+use Rattle.mnemonic.specs.Mnemonic.{pairs, folded, eitherCase, notSmall, mayLeaveOut}
+use Rattle.mnemonic.proofs.Pairs.{differ}
+
+module _ (b : ℕ) (r : Bool) where
+  module _ (e : r ≡ isCapital b) where
+    pub folded-capital′ : r ≡ true → b + 32 ≡ folded b
+    unfolding folded
+    folded-capital′ q = rw (← e, q)
+
+    pub folded-fits′ : r ≡ true → Fits w8 (b + 32)
+    unfolding isCapital
+    folded-fits′ q = record { fits = omega (arith, leb-true b 90 (and-right (leb 65 b) (leb b 90) (sym e ∙ q))) }
+
+    pub folded-other′ : r ≡ false → b ≡ folded b
+    unfolding folded
+    folded-other′ q = rw (← e, q)
+
+    pub left-out-capital′ : r ≡ true → false ≡ mayLeaveOut b
+    unfolding mayLeaveOut
+    left-out-capital′ q = rw (← e, q)
+
+    pub left-out-other′ : (d : Bool) → d ≡ isDigit b → r ≡ false → not d ≡ mayLeaveOut b
+    unfolding mayLeaveOut
+    left-out-other′ d f q = rw (← e, q, f)
+
+  pub not-small′ : r ≡ isSmall b → not r ≡ notSmall b
+  unfolding notSmall
+  not-small′ e = rw e
+
+pub is-either-case′ : (c d x y : ℕ) → x ≡ folded c → y ≡ folded d → eqb x y ≡ eitherCase c d
+unfolding eitherCase
+is-either-case′ c d x y e f = rw (e, f)
+
+module _ (s : List ℕ) where
+  pub one-long′ : (length s ≡ 1 → ⊥) → false ≡ pairs eqb s (49 ∷ [])
+  one-long′ h = sym (differ eqb s (49 ∷ []) h)
+
+  pub one-is′ : length s ≡ 1 → eqb (getD s 0 0) 49 ≡ pairs eqb s (49 ∷ [])
+  unfolding pairs
+  one-is′ = go s
+    where
+      go : (s : List ℕ) → length s ≡ 1 → eqb (getD s 0 0) 49 ≡ pairs eqb s (49 ∷ [])
+      go [] h = absurd (omega arith)
+      go (c ∷ []) h = sym (and-true (eqb c 49))
+      go (c ∷ d ∷ s) h = absurd (omega arith)
+
+module _ (b : ℕ) where
+  pub small-left-out : isSmall b ≡ true → mayLeaveOut b ≡ true
+  unfolding mayLeaveOut
+  small-left-out e = rw (small-no-capital b e, small-no-digit b e)
+
+  pub capital-needed : isCapital b ≡ true → mayLeaveOut b ≡ false
+  unfolding mayLeaveOut
+  capital-needed e = rw e
+
+  pub digit-needed : isDigit b ≡ true → mayLeaveOut b ≡ false
+  unfolding mayLeaveOut
+  digit-needed e = rw (digit-no-capital b e, e)
+
+  pub capital-not-small : isCapital b ≡ true → notSmall b ≡ true
+  unfolding notSmall
+  capital-not-small e = rw (capital-no-small b e)
+
+  pub small-is-small : isSmall b ≡ true → notSmall b ≡ false
+  unfolding notSmall
+  small-is-small e = rw e
+
+pub ruleset laws = (needs, folded-capital′, folded-fits′, folded-other′, left-out-capital′, left-out-other′, not-small′, is-either-case′, one-long′, one-is′)

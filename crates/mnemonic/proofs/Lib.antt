@@ -1,0 +1,9 @@
+-- Laws that belong to no one function.
+pub mod Pairs
+pub mod Bytes
+pub mod Split
+pub mod Compare
+pub mod Match
+pub mod Alike
+pub mod Spelling
+pub mod Claims

@@ -69,6 +69,10 @@ numericSuffix s = drop (numericSuffixStart s) s
 unfoldable pub sameNumericSuffix : List ℕ → List ℕ → Bool
 sameNumericSuffix x y = same x y || (same x [] && same y (ascii "1") || same x (ascii "1") && same y [])
 
+-- a stem and a numeric suffix beside those of a word: the stems compare, and the suffixes are the same
+abbrev pub matchesParts : List ℕ → List ℕ → List ℕ → List ℕ → Bool
+matchesParts m i s j = compares m s && sameNumericSuffix i j
+
 -- the texts compare as they stand, or their stems do and they have the same numeric suffix
 unfoldable pub matches : List ℕ → List ℕ → Bool
-matches m s = compares m s || (compares (stem m) (stem s) && sameNumericSuffix (numericSuffix m) (numericSuffix s))
+matches m s = compares m s || matchesParts (stem m) (numericSuffix m) (stem s) (numericSuffix s)

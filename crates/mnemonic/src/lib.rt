@@ -2,7 +2,7 @@
 ghost use mathlib.Core.Path.{_≡_};
 ghost use Rattle.kind.specs.Text.{ascii};
 ghost use Rattle.util.specs.Run.{every};
-ghost use Rattle.mnemonic.specs.Mnemonic.{folded, eitherCase, alike, same, notSmall, mayLeaveOut, compares, numericSuffixStart, matches};
+ghost use Rattle.mnemonic.specs.Mnemonic.{folded, eitherCase, alike, same, notSmall, mayLeaveOut, compares, numericSuffixStart, sameNumericSuffix, matchesParts, matches};
 
 // A letter without its case.
 fn lower(b: u8) -> u8
@@ -144,6 +144,32 @@ fn is_one(s: &[u8]) -> bool
     s[0] == b'1'
 }
 
+// Whether two numeric suffixes say the same; none says 1.
+pub fn is_same_numeric_suffix(x: &[u8], y: &[u8]) -> bool
+    ensures { λ r. ⌜ r ≡ sameNumericSuffix (now (x .entry)) (now (y .entry)) ⌝ }
+{
+    if x.len() == 0 {
+        if y.len() == 0 {
+            return true;
+        }
+        return is_one(y);
+    }
+    if y.len() == 0 {
+        return is_one(x);
+    }
+    is_equal(x, y)
+}
+
+// Whether the stem of a word is a form of the mnemonic's, and their numeric suffixes say the same.
+fn match_parts(stem: &[u8], suffix: &[u8], word: &[u8], number: &[u8]) -> bool
+    ensures { λ r. ⌜ r ≡ matchesParts (now (stem .entry)) (now (suffix .entry)) (now (word .entry)) (now (number .entry)) ⌝ }
+{
+    if !is_same_numeric_suffix(suffix, number) {
+        return false;
+    }
+    mnemonic_compare(stem, word)
+}
+
 // Whether the word spells the mnemonic, its numeric suffix with it, as `TRIG1` spells `TRIGger`.
 pub fn mnemonic_match(mnemonic: &[u8], s: &[u8]) -> bool
     ensures { λ r. ⌜ r ≡ matches (now (mnemonic .entry)) (now (s .entry)) ⌝ }
@@ -157,19 +183,7 @@ pub fn mnemonic_match(mnemonic: &[u8], s: &[u8]) -> bool
         if n == s.len() {
             return false;
         }
-        if !is_one(&s[n..]) {
-            return false;
-        }
-        return mnemonic_compare(mnemonic, &s[..n]);
+        return match_parts(mnemonic, &mnemonic[m..], &s[..n], &s[n..]);
     }
-    if n == s.len() {
-        if !is_one(&mnemonic[m..]) {
-            return false;
-        }
-        return mnemonic_compare(&mnemonic[..m], s);
-    }
-    if !is_equal(&mnemonic[m..], &s[n..]) {
-        return false;
-    }
-    mnemonic_compare(&mnemonic[..m], &s[..n])
+    match_parts(&mnemonic[..m], &mnemonic[m..], &s[..n], &s[n..])
 }

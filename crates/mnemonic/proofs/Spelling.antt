@@ -267,6 +267,45 @@ module _ (n : List ℕ) (name : Name n) where
   match-spells w =
       rw whole (agree before (ending .1) (name .smalls) before-plain (ending .3) (name .all-small) (name .digits) (name .all-digit) w)
 
+  abbrev k : ℕ
+  k = ending .1
+
+  abbrev l : List ℕ
+  l = name .smalls
+
+  abbrev d : List ℕ
+  d = name .digits
+
+  abbrev cap : isCapital k ≡ true
+  cap = ending .3
+
+  abbrev small : every isSmall l ≡ true
+  small = name .all-small
+
+  abbrev digit : every isDigit d ≡ true
+  digit = name .all-digit
+
+  abbrev upper : List ℕ
+  upper = caps before k l before-plain cap small
+
+  -- a text compares with what stands before the numeric suffix where it is one of the two forms
+  pub form-compares : (v : List ℕ) → compares (stem n) v ≡ (alike (long n) v || alike (short n) v)
+  unfolding letters caps
+  form-compares v =
+      rw whole
+      (rw (stem-is before k l before-plain cap small d digit [], caps-are before k l before-plain cap small d digit [])
+      (both-ways (compares (upper ++ l) v) (alike (upper ++ l) v || alike upper v)
+      (λ h. ⊎-elim (λ a. or-left {a = alike (upper ++ l) v} _ a) (λ a. or-right (alike (upper ++ l) v) a) (forms before k l before-plain cap small v h))
+      (λ h. ⊎-elim (by-long (upper ++ l) v) (λ a. by-short (upper ++ l) v (caps-short before k l before-plain cap small v a)) (either (alike (upper ++ l) v) _ h))))
+
+  -- the short form ends in no digit
+  pub short-ends : Ends (short n)
+  unfolding letters caps
+  short-ends =
+      rw whole
+      (rw (stem-is before k l before-plain cap small d digit [], caps-are before k l before-plain cap small d digit [])
+      (caps-end before k l before-plain cap small))
+
   pub forms-of : Forms n name
   unfolding letters caps
   forms-of =
@@ -282,21 +321,3 @@ module _ (n : List ℕ) (name : Name n) where
             ∙ capitals-are;
         number = ap (λ (t : List ℕ). numericSuffix t) whole ∙ suffix-is before k l before-plain cap small d digit [];
       }
-    where
-      k : ℕ
-      k = ending .1
-
-      l : List ℕ
-      l = name .smalls
-
-      d : List ℕ
-      d = name .digits
-
-      cap : isCapital k ≡ true
-      cap = ending .3
-
-      small : every isSmall l ≡ true
-      small = name .all-small
-
-      digit : every isDigit d ≡ true
-      digit = name .all-digit

@@ -5,7 +5,7 @@ use mathlib.Core.List.{List, [], _∷_, _++_}
 use mathlib.Core.Bool.{Bool, true, false, cond, not, _&&_}
 use native.Mathlib.Numerals.{add-one}
 use native.Mathlib.Omega.{arith}
-use lib.ListN.{length, getD, drop, drop-of-length-le}
+use lib.ListN.{length, getD, take, drop, drop-of-length-le}
 use lib.Seq.{drop-cons}
 use borrow.Author.Needs.{needs}
 use borrow.Author.Tests.{not-true, not-false}
@@ -65,6 +65,26 @@ module _ (p : ℕ → Bool) where
   run-whole [] y hx hy = hy
   run-whole (b ∷ x) y hx hy =
       rw (and-left (p b) (every p x) hx) (ap suc (run-whole x y (and-right (p b) (every p x) hx) hy))
+
+  -- a run ends within the text
+  pub run-within : (x : List ℕ) → run p x ≤ length x
+  unfolding run
+  run-within [] = omega arith
+  run-within (b ∷ x) = go (p b) (run-within x)
+    where
+      go : (c : Bool) → run p x ≤ length x → cond c (suc (run p x)) 0 ≤ suc (length x)
+      go true ih = omega arith
+      go false ih = omega arith
+
+  -- a run is of its class
+  pub every-run-front : (x : List ℕ) → every p (take (run p x) x) ≡ true
+  unfolding every run
+  every-run-front [] = refl
+  every-run-front (b ∷ x) = go (p b) refl (every-run-front x)
+    where
+      go : (c : Bool) → p b ≡ c → every p (take (run p x) x) ≡ true → every p (take (cond c (suc (run p x)) 0) (b ∷ x)) ≡ true
+      go true e ih = and-both e ih
+      go false e ih = refl
 
   pub every-drop : (i : ℕ) (x : List ℕ) → every p x ≡ true → every p (drop i x) ≡ true
   unfolding every

@@ -1,0 +1,39 @@
+-- Which texts are table names, found by runs; and names with a spelling in common. What a name is, and which words spell one, is said in
+-- Spelling of the crate mnemonic.
+use Prim.Native.Nat.{ℕ}
+use Prim.Native.Char.{code}
+use mathlib.Core.Path.{_≡_}
+use mathlib.Core.List.{List}
+use mathlib.Core.Bool.{Bool, true, not, _&&_, _||_}
+use lib.Dec.{eqb, ltb}
+use lib.ListN.{length, getD, take}
+use Rattle.kind.specs.Class.{isCapital, isSmall, isDigit}
+use Rattle.util.specs.Run.{run, runEnd, standsAt}
+use Rattle.mnemonic.specs.Mnemonic.{notSmall, compares, stem, numericSuffix, sameNumericSuffix}
+use Rattle.mnemonic.specs.Spelling.{spells}
+
+-- small letters, digits that do not start with 0, and the end of the text stand behind some capitals
+unfoldable pub endsFrom : List ℕ → ℕ → Bool
+endsFrom s letters = not (standsAt (code "0") s letters) && eqb (runEnd isDigit s letters) (length s)
+
+-- capitals, one at least, small letters and digits that do not start with 0 are all that stands from a place on
+unfoldable pub namesFrom : List ℕ → ℕ → Bool
+namesFrom s at = ltb at (runEnd isCapital s at) && endsFrom s (runEnd isSmall s (runEnd isCapital s at))
+
+-- the names begin with two different capitals
+unfoldable pub startsApart : List ℕ → List ℕ → Bool
+startsApart a b = isCapital (getD a 0 0) && (isCapital (getD b 0 0) && not (eqb (getD a 0 0) (getD b 0 0)))
+
+-- a text, or what stands in it before the small letters, is a form of the mnemonic
+unfoldable pub formOf : List ℕ → List ℕ → Bool
+formOf m x = compares m x || compares m (take (run notSmall x) x)
+
+-- SCPI-99 6.2.1: the long or the short form of the name b is a form of the name a too, and they have the same numeric suffix
+unfoldable pub shares : List ℕ → List ℕ → Bool
+shares a b = formOf (stem a) (stem b) && sameNumericSuffix (numericSuffix a) (numericSuffix b)
+
+-- SCPI-99 6.2.1: a word that spells both names
+pub record Share (a b : List ℕ) : Type 0 where
+  pub word : List ℕ
+  pub one : spells a word ≡ true
+  pub other : spells b word ≡ true

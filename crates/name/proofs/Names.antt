@@ -14,7 +14,7 @@ use borrow.Author.Tests.{not-true, ltb-true, eqb-true, lt-ltb, eq-eqb, le-ltb}
 use Rattle.kind.specs.Class.{isCapital, isSmall, isDigit}
 use Rattle.kind.proofs.Tests.{and-left, and-right, and-both, clash, less-or-not}
 use Rattle.kind.proofs.Classes.{small-no-capital, digit-no-capital, small-no-digit}
-use Rattle.util.specs.Decides.{Decides}
+use Rattle.util.specs.Decides.{Decides, holds, fails}
 use Rattle.util.specs.Run.{run, runEnd, standsAt, every}
 use Rattle.util.proofs.Decided.{by-both}
 use Rattle.util.proofs.Every.{every-run, run-every, run-whole, every-run-front, run-within}
@@ -253,5 +253,17 @@ module _ (s : List ℕ) (t r : Bool) (e : t ≡ standsAt 42 s 0) where
           go : (n .star ≡ []) ⊎ (n .star ≡ 42 ∷ []) → namesFrom s 0 ≡ true
           go (inl f) = plain-exact s 0 (omega arith) .1 (behind-star s n [] f)
           go (inr f) = clash (star-first s n f) (sym e ∙ q)
+
+-- a text that cannot fail to be a name is one
+pub surely : (s : List ℕ) → ((Name s → ⊥) → ⊥) → Name s
+surely s h = go (standsAt 42 s 0) refl
+  where
+    by : {r : Bool} → Decides (Name s) r → Name s
+    by (holds n) = n
+    by (fails f) = absurd (h f)
+
+    go : (t : Bool) → t ≡ standsAt 42 s 0 → Name s
+    go true e = by (starred′ s true (namesFrom s 1) e refl refl)
+    go false e = by (unstarred′ s false (namesFrom s 0) e refl refl)
 
 pub ruleset laws = (needs, starred′, unstarred′)

@@ -1,0 +1,37 @@
+-- Laws of the name of a node, as the code meets them.
+use Prim.Native.Nat.{ℕ, _+_, _-_, _≤_, _<_}
+use mathlib.Core.Path.{_≡_, sym, _∙_}
+use mathlib.Core.List.{List}
+use native.Mathlib.Omega.{arith}
+use lib.ListN.{length, take, drop}
+use mir.Syntax.{w64}
+use mir.Val.{Fits}
+use borrow.Author.Needs.{needs}
+use borrow.Author.Tests.{le-leb, lt-leb}
+use Rattle.node.specs.Word.{nameLength, nameStart, firstChild, childCount, nameIn}
+
+-- fields are small
+
+pub name-ends : (w : ℕ) → nameStart w + nameLength w < 65552
+unfolding nameStart nameLength
+name-ends w = omega arith
+
+pub block-ends : (w : ℕ) → firstChild w + childCount w < 131072
+unfolding firstChild childCount
+block-ends w = omega arith
+
+module _ (w a b : ℕ) (e : a ≡ nameStart w) (f : b ≡ nameLength w) where
+  pub end-fits′ : Fits w64 (a + b)
+  end-fits′ = record { fits = omega (arith, name-ends w) }
+
+  pub outside′ : (names : List ℕ) → length names < a + b → take 0 names ≡ nameIn names w
+  unfolding nameIn
+  outside′ names h = rw (← e, ← f, lt-leb (a + b) (length names) h)
+
+  pub inside′ : (names : List ℕ) → a + b ≤ length names → take (a + b - a) (drop a names) ≡ nameIn names w
+  unfolding nameIn
+  inside′ names h =
+      let k : a + b - a ≡ b = omega arith in
+      rw (← e, ← f, le-leb (a + b) (length names) h, k)
+
+pub ruleset laws = (needs, end-fits′, outside′, inside′)

@@ -1,0 +1,100 @@
+-- The claims.
+use Prim.Native.Nat.{ℕ, _≤_, _<_}
+use mathlib.Core.Path.{_≡_, refl, sym, ap, _∙_}
+use mathlib.Core.Logic.{_⊎_, inl, inr}
+use mathlib.Core.List.{List}
+use mathlib.Core.Bool.{Bool, true, false, cond}
+use native.Mathlib.Decide.{ℕ-discrete}
+use native.Mathlib.Omega.{arith}
+use lib.Dec.{eqb}
+use lib.IntN.{pos}
+use lib.ListN.{length}
+use Rattle.error.specs.Code.{codeOf}
+use Rattle.error.specs.declared.ErrorCode.{ErrorCode}
+use Rattle.error.specs.declared.ErrorCode.the-variants as code
+use Rattle.kind.proofs.Tests.{less-or-not}
+use Rattle.mnemonic.specs.Spelling.{spells}
+use Rattle.node.specs.Tree.{branch, nameOf, Near}
+use Rattle.table.specs.Fault.{root-no-branch, Fault, node-count, node-fields, child-blocks, node-name, two-defaults, shared-spelling, Accepted, Verdict, accepts, refuses}
+use Rattle.table.specs.Parts.{Ready}
+use Rattle.table.specs.Claims.{Tree, Claims}
+use Rattle.table.specs.declared.Checked.{Checked}
+use Rattle.table.specs.declared.Checked.the-variants as checked
+use Rattle.table.proofs.Shape.{holder-of, one-holder, child-after, child-in}
+use Rattle.table.proofs.Theorem.{name-of, one-default}
+
+module _ (t names : List ℕ) (ok : Accepted t names) where
+  ready : Ready t names
+  ready =
+      record {
+        blocks = record { no-child-blocks = λ x. ok .faultless code.ChildBlocks 3 (child-blocks x) };
+        no-node-name = λ x. ok .faultless code.NodeName 4 (node-name x);
+        no-two-defaults = λ x. ok .faultless code.TwoDefaults 5 (two-defaults x);
+      }
+
+  root : branch t 0 ≡ true
+  root = go (branch t 0) refl
+    where
+      go : (r : Bool) → branch t 0 ≡ r → branch t 0 ≡ true
+      go true e = e
+      go false e = absurd (ok .faultless code.NodeFields 2 (node-fields (root-no-branch e)))
+
+  apart : {b k j : ℕ} → Near t b k → Near t b j → (w : List ℕ) → spells (nameOf t names k) w ≡ true → spells (nameOf t names j) w ≡ true → k ≡ j
+  apart {b} {k} {j} x y w p q = go (ℕ-discrete k j)
+    where
+      go : Dec (k ≡ j) → k ≡ j
+      go (yes e) = e
+      go (no e) =
+          absurd
+          (ok .faultless code.SharedSpelling 6
+          (shared-spelling (record { holder = b; one = k; other = j; near-one = x; near-other = y; two = e; shared = record { word = w; one = p; other = q } })))
+
+  tree : Tree t names
+  tree =
+      let whole = ready .blocks .no-child-blocks in
+      record {
+        root = root;
+        held = holder-of t whole;
+        one-holder = one-holder t whole;
+        after = child-after t whole;
+        inside = child-in t whole;
+        one-default = one-default t names ready;
+        named = name-of t names ready;
+        apart = apart;
+      }
+
+numbers : (t names : List ℕ) (e : ErrorCode) (n : ℕ) → Fault t names e n → codeOf e ≡ pos n
+numbers t names e n (node-count x) = refl
+numbers t names e n (node-fields x) = refl
+numbers t names e n (child-blocks x) = refl
+numbers t names e n (node-name x) = refl
+numbers t names e n (two-defaults x) = refl
+numbers t names e n (shared-spelling x) = refl
+
+-- the refusal that has a number, found by it
+coded : ℕ → ErrorCode
+coded n = cond (eqb n 1) code.NodeCount (cond (eqb n 2) code.NodeFields (cond (eqb n 3) code.ChildBlocks (cond (eqb n 4) code.NodeName (cond (eqb n 5) code.TwoDefaults code.SharedSpelling))))
+
+is-coded : {t names : List ℕ} {e : ErrorCode} {n : ℕ} → Fault t names e n → e ≡ coded n
+unfolding coded
+is-coded (node-count x) = refl
+is-coded (node-fields x) = refl
+is-coded (child-blocks x) = refl
+is-coded (node-name x) = refl
+is-coded (two-defaults x) = refl
+is-coded (shared-spelling x) = refl
+
+module _ (t names : List ℕ) where
+  one-verdict : (c d : Checked) → Verdict t names c → Verdict t names d → c ≡ d
+  one-verdict c d (accepts x) (accepts y) = refl
+  one-verdict c d (accepts x) (refuses {e} {n} f g) = absurd (x .faultless e n f)
+  one-verdict c d (refuses {e} {n} f g) (accepts y) = absurd (y .faultless e n f)
+  one-verdict c d (refuses {e} {n} f g) (refuses {e = h} {n = m} u v) = ap checked.Fault (is-coded f ∙ ap coded (go (less-or-not n m) (less-or-not m n)) ∙ sym (is-coded u))
+    where
+      go : (n < m) ⊎ (m ≤ n) → (m < n) ⊎ (n ≤ m) → n ≡ m
+      go (inl l) z = absurd (v e n l f)
+      go (inr l) (inl k) = absurd (g h m k u)
+      go (inr l) (inr k) = omega arith
+
+pub claims : Claims
+claims = record { accepted = tree; one-verdict = one-verdict; numbers = numbers }

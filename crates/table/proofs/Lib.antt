@@ -1,0 +1,11 @@
+-- Laws that belong to no one function.
+pub mod Before
+pub mod Fields
+pub mod Blocks
+pub mod Shape
+pub mod NodeNames
+pub mod Defaults
+pub mod Shared
+pub mod Theorem
+pub mod Verdicts
+pub mod Claims

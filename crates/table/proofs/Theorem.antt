@@ -1,0 +1,151 @@
+-- It is enough to compare, at each branch, its children with each other and with the near nodes of its default branch.
+use Prim.Native.Nat.{ℕ, _+_, _-_, _≤_, _<_}
+use mathlib.Core.Path.{_≡_, refl, sym, subst, _∙_}
+use mathlib.Core.Logic.{_⊎_, inl, inr}
+use mathlib.Core.List.{List}
+use mathlib.Core.Bool.{Bool, true, false, not}
+use native.Mathlib.Decide.{ℕ-discrete}
+use native.Mathlib.Omega.{arith}
+use lib.ListN.{length, getD}
+use borrow.Author.Needs.{needs}
+use borrow.Author.Tests.{not-true, not-false}
+use Rattle.kind.proofs.Tests.{clash, less-or-not}
+use Rattle.util.specs.Decides.{Decides, holds, fails}
+use Rattle.util.proofs.Decided.{by-both, it-holds, it-fails}
+use Rattle.mnemonic.specs.Spelling.{Name}
+use Rattle.name.specs.Name.{shares, Share}
+use Rattle.name.proofs.Shares.{sharing}
+use Rattle.name.proofs.Names.{surely}
+use Rattle.node.specs.Word.{isBranch, firstChild, childCount}
+use Rattle.node.specs.Tree.{branch, default, first, count, nameOf, Child, Near, child, under}
+use Rattle.table.specs.Fault.{ChildBlocks, no-name, SharedSpelling}
+use Rattle.table.specs.Parts.{NextDefault, SharesIn, ChildrenShare, NearShares, SharesAt, children, below, Ready}
+use Rattle.table.proofs.Before.{Before, none-yet, one-more}
+use Rattle.table.proofs.Blocks.{in-table, block-fits′}
+use Rattle.table.proofs.Shape.{near-branch, child-in, child-after, elsewhere, near-in}
+
+flip : {a b : List ℕ} → Share a b → Share b a
+flip s = record { word = s .word; one = s .other; other = s .one }
+
+module _ (t names : List ℕ) (ok : Ready t names) where
+  -- the nodes have names
+  pub name-of : (k : ℕ) → 0 < k → k < length t → Name (nameOf t names k)
+  name-of k p l = surely (nameOf t names k) (λ n. ok .no-node-name (record { node = k; not-root = p; inside = l; bad = no-name n }))
+
+  module _ (k j : ℕ) (p : 0 < k) (l : k < length t) (q : 0 < j) (m : j < length t) where
+    exact : Decides (Share (nameOf t names k) (nameOf t names j)) (shares (nameOf t names k) (nameOf t names j))
+    exact = sharing (nameOf t names k) (nameOf t names j) (name-of k p l) (name-of j q m)
+
+    tested : Share (nameOf t names k) (nameOf t names j) → shares (nameOf t names k) (nameOf t names j) ≡ true
+    tested s = go (shares (nameOf t names k) (nameOf t names j)) refl exact
+      where
+        go : (r : Bool) → shares (nameOf t names k) (nameOf t names j) ≡ r → Decides (Share (nameOf t names k) (nameOf t names j)) r → shares (nameOf t names k) (nameOf t names j) ≡ true
+        go true e d = e
+        go false e d = absurd (it-fails d refl s)
+
+    shared : shares (nameOf t names k) (nameOf t names j) ≡ true → Share (nameOf t names k) (nameOf t names j)
+    shared e = it-holds exact e
+
+  abbrev whole : ChildBlocks t → ⊥
+  whole = ok .blocks .no-child-blocks
+
+  -- complete: two near nodes that share a spelling are found at some branch
+  sisters : {b k j : ℕ} → Child t b k → Child t b j → k < j → Share (nameOf t names k) (nameOf t names j) → SharesAt t names b
+  sisters {b} {k} {j} c d l s =
+      children
+      (record {
+        one = k;
+        low = c .from;
+        rest = record { node = j; low = omega arith; high = d .below; shared = tested k j (near-in t whole (child c) .0) (child-in t whole c) (near-in t whole (child d) .0) (child-in t whole d) s };
+      })
+
+  -- a child, and a near node of the default branch
+  aunt : {b k d j : ℕ} → Child t b k → Child t b d → default t d ≡ true → Near t d j → Share (nameOf t names j) (nameOf t names k) → SharesAt t names b
+  aunt {b} {k} {d} {j} c e m x s =
+      below e m
+      (record {
+        one = j;
+        near = x;
+        rest = record { node = k; low = c .from; high = c .below; shared = tested j k (near-in t whole x .0) (near-in t whole x .1) (near-in t whole (child c) .0) (child-in t whole c) s };
+      })
+
+  pub one-default : {b d e : ℕ} → Child t b d → Child t b e → default t d ≡ true → default t e ≡ true → d ≡ e
+  one-default {b} {d} {e} c c′ m m′ = go (ℕ-discrete d e)
+    where
+      go : Dec (d ≡ e) → d ≡ e
+      go (yes q) = q
+      go (no q) =
+          absurd
+          (ok .no-two-defaults
+          (record { holder = b; one = d; other = e; child-one = c; child-other = c′; two = q; default-one = m; default-other = m′ }))
+
+  found : {b k j : ℕ} → Near t b k → Near t b j → (k ≡ j → ⊥) → Share (nameOf t names k) (nameOf t names j) → (a : ℕ) × (branch t a ≡ true) × SharesAt t names a
+  found {b} {k} {j} (child c) (child d) two s = (b, c .holder, go (less-or-not k j))
+    where
+      go : (k < j) ⊎ (j ≤ k) → SharesAt t names b
+      go (inl l) = sisters c d l s
+      go (inr l) = sisters d c (strict (ℕ-discrete k j)) (flip s)
+        where
+          strict : Dec (k ≡ j) → j < k
+          strict (yes e) = absurd (two e)
+          strict (no e) = omega arith
+  found {b} (child c) (under d m x) two s = (b, c .holder, aunt c d m x (flip s))
+  found {b} (under c m x) (child d) two s = (b, d .holder, aunt d c m x s)
+  found {j = j} (under {d = d} c m x) (under {d = e} c′ m′ y) two s =
+      let q : e ≡ d = one-default c′ c m′ m in
+      found x (subst (λ (n : ℕ). Near t n j) q y) two s
+
+  -- sound: what is found at a branch are two near nodes of it
+  sound : {b : ℕ} → branch t b ≡ true → SharesAt t names b → SharedSpelling t names
+  sound {b} m (children x) =
+      let c : Child t b (x .one) = record { holder = m; from = x .low; below = omega (arith, x .rest .low, x .rest .high) } in
+      let d : Child t b (x .rest .node) = record { holder = m; from = omega (arith, x .low, x .rest .low); below = x .rest .high } in
+      record {
+        holder = b;
+        one = x .one;
+        other = x .rest .node;
+        near-one = child c;
+        near-other = child d;
+        two = λ e. omega (arith, x .rest .low);
+        shared = shared (x .one) (x .rest .node) (near-in t whole (child c) .0) (child-in t whole c) (near-in t whole (child d) .0) (child-in t whole d) (x .rest .shared);
+      }
+  sound {b} m (below {d = d} e f x) =
+      let c : Child t b (x .rest .node) = record { holder = m; from = x .rest .low; below = x .rest .high } in
+      record {
+        holder = b;
+        one = x .one;
+        other = x .rest .node;
+        near-one = under e f (x .near);
+        near-other = child c;
+        two = λ q. elsewhere t whole c e (subst (λ (k : ℕ). Near t d k) q (x .near));
+        shared = shared (x .one) (x .rest .node) (near-in t whole (x .near) .0) (near-in t whole (x .near) .1) (near-in t whole (child c) .0) (child-in t whole c) (x .rest .shared);
+      }
+
+-- what the loop keeps: nothing was found at a branch before b
+abbrev pub Clear : List ℕ → List ℕ → ℕ → Type 0
+Clear t names a = branch t a ≡ true → SharesAt t names a → ⊥
+
+module _ (t names : List ℕ) where
+  pub clear-begins′ : Before (Clear t names) 0 0
+  clear-begins′ = none-yet (Clear t names) 0
+
+  module _ (b : ℕ) (inv : Before (Clear t names) 0 b) where
+    pub clear-end′ : Ready t names → length t ≤ b → Decides (SharedSpelling t names) false
+    clear-end′ ok h =
+        fails (λ x. let z = found t names ok (x .near-one) (x .near-other) (x .two) (x .shared) in inv .all (z .0) (omega arith) (omega (arith, in-table t (z .0) (z .1))) (z .1) (z .2))
+
+    module _ (r : Bool) (e : r ≡ isBranch (getD t b 0)) where
+      pub clear-leaf′ : r ≡ false → (i : ℕ) → i ≡ b + 1 → Before (Clear t names) 0 i
+      clear-leaf′ q i h = one-more (Clear t names) 0 b inv (λ u. clash u (sym e ∙ q)) i h
+
+      module _ (q : r ≡ true) (o : Bool) (d : Decides (SharesAt t names b) o) where
+        pub clear-found′ : Ready t names → o ≡ true → Decides (SharedSpelling t names) true
+        clear-found′ ok w = holds (sound t names ok (sym e ∙ q) (it-holds d w))
+
+        pub clear-more′ : o ≡ false → (i : ℕ) → i ≡ b + 1 → Before (Clear t names) 0 i
+        clear-more′ w i h = one-more (Clear t names) 0 b inv (λ u. it-fails d w) i h
+
+pub branch-told′ : (t : List ℕ) (b : ℕ) (r : Bool) → r ≡ isBranch (getD t b 0) → r ≡ true → branch t b ≡ true
+branch-told′ t b r e q = sym e ∙ q
+
+pub ruleset clear-laws = (needs, branch-told′, clear-begins′, clear-end′, clear-leaf′, clear-found′, clear-more′)

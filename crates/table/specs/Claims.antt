@@ -1,0 +1,38 @@
+-- What is proved of these definitions, besides the promise of the check. The proofs are in proofs/Claims.
+use Prim.Native.Nat.{ℕ, _≤_, _<_}
+use mathlib.Core.Path.{_≡_}
+use mathlib.Core.List.{List}
+use mathlib.Core.Bool.{true}
+use lib.IntN.{pos}
+use lib.ListN.{length}
+use Rattle.error.specs.Code.{codeOf}
+use Rattle.error.specs.declared.ErrorCode.{ErrorCode}
+use Rattle.mnemonic.specs.Spelling.{Name, spells}
+use Rattle.node.specs.Tree.{branch, default, nameOf, Child, Near}
+use Rattle.table.specs.Fault.{Fault, Accepted, Verdict}
+use Rattle.table.specs.declared.Checked.{Checked}
+
+-- An accepted table is a tree of named nodes, in which a word has one meaning at most at each branch.
+pub record Tree (t names : List ℕ) : Type 0 where
+  -- the root is a branch
+  pub root : branch t 0 ≡ true
+  -- each node but the root is a child of a branch, and of one only
+  pub held : (k : ℕ) → 0 < k → k < length t → (b : ℕ) × Child t b k
+  pub one-holder : {b c k : ℕ} → Child t b k → Child t c k → b ≡ c
+  -- a child lies behind its branch, in the table
+  pub after : {b k : ℕ} → Child t b k → b < k
+  pub inside : {b k : ℕ} → Child t b k → k < length t
+  -- a branch has one default child at most
+  pub one-default : {b k j : ℕ} → Child t b k → Child t b j → default t k ≡ true → default t j ≡ true → k ≡ j
+  -- each node but the root has a name
+  pub named : (k : ℕ) → 0 < k → k < length t → Name (nameOf t names k)
+  -- no word spells two near nodes of a branch
+  pub apart : {b k j : ℕ} → Near t b k → Near t b j → (w : List ℕ) → spells (nameOf t names k) w ≡ true → spells (nameOf t names j) w ≡ true → k ≡ j
+
+pub record Claims : Type 0 where
+  -- so is every accepted table
+  pub accepted : (t names : List ℕ) → Accepted t names → Tree t names
+  -- the check can say one thing only of a table
+  pub one-verdict : (t names : List ℕ) (c d : Checked) → Verdict t names c → Verdict t names d → c ≡ d
+  -- a fault is reported by its number
+  pub numbers : (t names : List ℕ) (e : ErrorCode) (n : ℕ) → Fault t names e n → codeOf e ≡ pos n

@@ -1,0 +1,99 @@
+-- The faults of a node table, and the table that has none.
+use Prim.Native.Nat.{ℕ, zero, suc, _+_, _≤_, _<_}
+use Prim.Native.Char.{code}
+use mathlib.Core.Path.{_≡_}
+use mathlib.Core.List.{List}
+use mathlib.Core.Bool.{true, false, cond}
+use lib.ListN.{length, getD}
+use Rattle.error.specs.declared.ErrorCode.{ErrorCode}
+use Rattle.error.specs.declared.ErrorCode.the-variants as code
+use Rattle.util.specs.Run.{standsAt}
+use Rattle.mnemonic.specs.Spelling.{Name}
+use Rattle.name.specs.Name.{Share}
+use Rattle.node.specs.Word.{nameLength, nameStart, spareBits}
+use Rattle.node.specs.Tree.{branch, default, first, count, nameOf, Child, Near}
+use Rattle.table.specs.declared.Checked.{Checked}
+use Rattle.table.specs.declared.Checked.the-variants as checked
+
+-- 1: no node, or more than 4,096
+pub data NodeCount (t : List ℕ) : Type 0 where
+  no-node : length t ≡ 0 → NodeCount t
+  too-many : 4096 < length t → NodeCount t
+
+-- 2: spare bits that are set, a root that is no branch, default or with a name, or a leaf with children
+pub data NodeFields (t : List ℕ) : Type 0 where
+  spare-bits : (k : ℕ) → k < length t → (spareBits (getD t k 0) ≡ 0 → ⊥) → NodeFields t
+  root-no-branch : branch t 0 ≡ false → NodeFields t
+  root-default : default t 0 ≡ true → NodeFields t
+  root-name-length : (nameLength (getD t 0 0) ≡ 0 → ⊥) → NodeFields t
+  root-name-start : (nameStart (getD t 0 0) ≡ 0 → ⊥) → NodeFields t
+  leaf-children : (k : ℕ) → k < length t → branch t k ≡ false → (count t k ≡ 0 → ⊥) → NodeFields t
+
+-- the place behind the child blocks of the branches before node k, where each follows the one before it, the first at 1
+unfoldable pub behind : List ℕ → ℕ → ℕ
+behind t zero = 1
+behind t (suc k) = cond (branch t k) (behind t k + count t k) (behind t k)
+
+-- 3: a child block that does not follow the ones before it, blocks that do not end at the end of the table, or a block that starts at
+-- or before its branch
+pub data ChildBlocks (t : List ℕ) : Type 0 where
+  not-behind : (b : ℕ) → branch t b ≡ true → (first t b ≡ behind t b → ⊥) → ChildBlocks t
+  not-to-end : (behind t (length t) ≡ length t → ⊥) → ChildBlocks t
+  too-early : (b : ℕ) → branch t b ≡ true → first t b ≤ b → ChildBlocks t
+
+-- a name outside the text, not of 1 to 12 bytes, or no name; or with a star, but not for a leaf under the root that is not default
+pub data BadName (t names : List ℕ) (k : ℕ) : Type 0 where
+  outside : length names < nameStart (getD t k 0) + nameLength (getD t k 0) → BadName t names k
+  no-byte : nameLength (getD t k 0) ≡ 0 → BadName t names k
+  too-long : 12 < nameLength (getD t k 0) → BadName t names k
+  no-name : (Name (nameOf t names k) → ⊥) → BadName t names k
+  star-branch : standsAt (code "*") (nameOf t names k) 0 ≡ true → branch t k ≡ true → BadName t names k
+  star-default : standsAt (code "*") (nameOf t names k) 0 ≡ true → default t k ≡ true → BadName t names k
+  star-below : standsAt (code "*") (nameOf t names k) 0 ≡ true → (Child t 0 k → ⊥) → BadName t names k
+
+-- 4: a bad name of a node that is not the root
+pub record NodeName (t names : List ℕ) : Type 0 where
+  pub node : ℕ
+  pub not-root : 0 < node
+  pub inside : node < length t
+  pub bad : BadName t names node
+
+-- 5: two default children in a branch
+pub record TwoDefaults (t : List ℕ) : Type 0 where
+  pub holder : ℕ
+  pub one : ℕ
+  pub other : ℕ
+  pub child-one : Child t holder one
+  pub child-other : Child t holder other
+  pub two : one ≡ other → ⊥
+  pub default-one : default t one ≡ true
+  pub default-other : default t other ≡ true
+
+-- 6: two near nodes of a branch that share a spelling
+pub record SharedSpelling (t names : List ℕ) : Type 0 where
+  pub holder : ℕ
+  pub one : ℕ
+  pub other : ℕ
+  pub near-one : Near t holder one
+  pub near-other : Near t holder other
+  pub two : one ≡ other → ⊥
+  pub shared : Share (nameOf t names one) (nameOf t names other)
+
+-- the table has a fault, with the refusal and the number that it is reported by
+pub data Fault (t names : List ℕ) : ErrorCode → ℕ → Type 0 where
+  node-count : NodeCount t → Fault t names code.NodeCount 1
+  node-fields : NodeFields t → Fault t names code.NodeFields 2
+  child-blocks : ChildBlocks t → Fault t names code.ChildBlocks 3
+  node-name : NodeName t names → Fault t names code.NodeName 4
+  two-defaults : TwoDefaults t → Fault t names code.TwoDefaults 5
+  shared-spelling : SharedSpelling t names → Fault t names code.SharedSpelling 6
+
+-- a table with none of these faults is accepted
+pub record Accepted (t names : List ℕ) : Type 0 where
+  pub faultless : (e : ErrorCode) (n : ℕ) → Fault t names e n → ⊥
+
+-- what the check says of a table: that it is accepted, or the smallest of its faults
+pub data Verdict (t names : List ℕ) : Checked → Type 0 where
+  accepts : Accepted t names → Verdict t names checked.Accepted
+  refuses : {e : ErrorCode} {n : ℕ} → Fault t names e n → ((d : ErrorCode) (m : ℕ) → m < n → Fault t names d m → ⊥)
+      → Verdict t names (checked.Fault e)

@@ -1,0 +1,76 @@
+-- What the functions of the check look for, each in its part of the table.
+use Prim.Native.Nat.{ℕ, _+_, _≤_, _<_}
+use mathlib.Core.Path.{_≡_}
+use mathlib.Core.List.{List}
+use mathlib.Core.Bool.{Bool, true, false, not, _&&_, _||_}
+use lib.Dec.{eqb}
+use Rattle.name.specs.Name.{shares}
+use Rattle.node.specs.Word.{isBranch, isDefault, nameLength, nameStart, childCount, spareBits}
+use Rattle.node.specs.Tree.{default, first, count, nameOf, Child, Near}
+use Rattle.table.specs.Fault.{ChildBlocks, NodeName, TwoDefaults}
+
+-- the word of a root: a branch, not default, its name fields 0
+unfoldable pub isRoot : ℕ → Bool
+isRoot w = isBranch w && (not (isDefault w) && (eqb (nameLength w) 0 && eqb (nameStart w) 0))
+
+-- no spare bit is set, and a leaf has no children
+unfoldable pub hasFields : ℕ → Bool
+hasFields w = eqb (spareBits w) 0 && (isBranch w || eqb (childCount w) 0)
+
+-- two default nodes among those from a place up to an end
+pub record TwoDefaultsIn (t : List ℕ) (from to : ℕ) : Type 0 where
+  pub one : ℕ
+  pub other : ℕ
+  pub low : from ≤ one
+  pub order : one < other
+  pub high : other < to
+  pub default-one : default t one ≡ true
+  pub default-other : default t other ≡ true
+
+-- d is the first default node from a place on, or at the end where there is none before it
+pub record NextDefault (t : List ℕ) (at to d : ℕ) : Type 0 where
+  pub from : at ≤ d
+  pub within : at ≤ to → d ≤ to
+  pub passed : (j : ℕ) → at ≤ j → j < d → default t j ≡ false
+  pub found : d < to → default t d ≡ true
+
+-- a node among those from a place up to an end shares a spelling with the name
+pub record SharesIn (t names name : List ℕ) (from to : ℕ) : Type 0 where
+  pub node : ℕ
+  pub low : from ≤ node
+  pub high : node < to
+  pub shared : shares name (nameOf t names node) ≡ true
+
+-- two nodes of one block share a spelling
+pub record ChildrenShare (t names : List ℕ) (first end : ℕ) : Type 0 where
+  pub one : ℕ
+  pub low : first ≤ one
+  pub rest : SharesIn t names (nameOf t names one) (one + 1) end
+
+-- a node of one block shares a spelling with a node of another
+pub record BlocksShare (t names : List ℕ) (first end from to : ℕ) : Type 0 where
+  pub one : ℕ
+  pub low : from ≤ one
+  pub high : one < to
+  pub rest : SharesIn t names (nameOf t names one) first end
+
+-- a near node of a branch shares a spelling with a node of a block
+pub record NearShares (t names : List ℕ) (first end b : ℕ) : Type 0 where
+  pub one : ℕ
+  pub near : Near t b one
+  pub rest : SharesIn t names (nameOf t names one) first end
+
+-- two children of a branch share a spelling, or a child and a near node of the default branch
+pub data SharesAt (t names : List ℕ) (b : ℕ) : Type 0 where
+  children : ChildrenShare t names (first t b) (first t b + count t b) → SharesAt t names b
+  below : {d : ℕ} → Child t b d → default t d ≡ true → NearShares t names (first t b) (first t b + count t b) d → SharesAt t names b
+
+-- a table without fault 3
+pub record Blocks (t : List ℕ) : Type 0 where
+  pub no-child-blocks : ChildBlocks t → ⊥
+
+-- a table without the faults 3 to 5
+pub record Ready (t names : List ℕ) : Type 0 where
+  pub blocks : Blocks t
+  pub no-node-name : NodeName t names → ⊥
+  pub no-two-defaults : TwoDefaults t → ⊥

@@ -1,0 +1,348 @@
+// The check of a node table: its nodes, a lent slice of words, and the lent text of their names.
+ghost use Prim.Native.Nat.{_<_, _≤_};
+ghost use mathlib.Core.Path.{_≡_};
+ghost use mathlib.Core.Bool.{true};
+ghost use lib.ListN.{length};
+ghost use Rattle.util.specs.Decides.{Decides};
+ghost use Rattle.node.specs.Tree.{branch, Child};
+ghost use Rattle.table.specs.Fault.{NodeCount, NodeFields, ChildBlocks, BadName, NodeName, TwoDefaults, SharedSpelling, Verdict};
+ghost use Rattle.table.specs.Parts.{isRoot, hasFields, TwoDefaultsIn, NextDefault, Blocks, Ready, SharesIn, ChildrenShare, BlocksShare, NearShares, SharesAt};
+use error::ErrorCode;
+
+// A table with no fault is accepted; of any other the smallest fault is given.
+pub enum Checked {
+    Accepted,
+    Fault(ErrorCode),
+}
+
+pub fn check(nodes: &[u64], names: &[u8]) -> Checked
+    ensures { λ r. ⌜ Verdict (now (nodes .entry)) (now (names .entry)) r ⌝ }
+{
+    if has_node_count(nodes) {
+        return Checked::Fault(ErrorCode::NodeCount);
+    }
+    if has_node_fields(nodes) {
+        return Checked::Fault(ErrorCode::NodeFields);
+    }
+    if has_child_blocks(nodes) {
+        return Checked::Fault(ErrorCode::ChildBlocks);
+    }
+    if has_node_name(nodes, names) {
+        return Checked::Fault(ErrorCode::NodeName);
+    }
+    if has_two_defaults(nodes) {
+        return Checked::Fault(ErrorCode::TwoDefaults);
+    }
+    if has_shared_spelling(nodes, names) {
+        return Checked::Fault(ErrorCode::SharedSpelling);
+    }
+    Checked::Accepted
+}
+
+// Fault 1: no node, or more than 4,096.
+fn has_node_count(nodes: &[u64]) -> bool
+    ensures { λ r. ⌜ Decides (NodeCount (now (nodes .entry))) r ⌝ }
+{
+    if nodes.len() == 0 {
+        return true;
+    }
+    4096 < nodes.len()
+}
+
+// Fault 2: fields that a root or a node may not have.
+fn has_node_fields(nodes: &[u64]) -> bool
+    ensures { λ r. ⌜ Decides (NodeFields (now (nodes .entry))) r ⌝ }
+{
+    if nodes.len() == 0 {
+        return true;
+    }
+    if !is_root(nodes[0]) {
+        return true;
+    }
+    let mut k = 0;
+    while k < nodes.len() {
+        if !has_fields(nodes[k]) {
+            return true;
+        }
+        k += 1;
+    }
+    false
+}
+
+// A root is a branch that is not default and has no name.
+fn is_root(word: u64) -> bool
+    ensures { λ r. ⌜ r ≡ isRoot word ⌝ }
+{
+    if !node::is_branch(word) {
+        return false;
+    }
+    if node::is_default(word) {
+        return false;
+    }
+    if node::name_length(word) != 0 {
+        return false;
+    }
+    node::name_start(word) == 0
+}
+
+// A node has no spare bit set, and a leaf no children.
+fn has_fields(word: u64) -> bool
+    ensures { λ r. ⌜ r ≡ hasFields word ⌝ }
+{
+    if node::spare_bits(word) != 0 {
+        return false;
+    }
+    if node::is_branch(word) {
+        return true;
+    }
+    node::child_count(word) == 0
+}
+
+// Fault 3: child blocks that do not follow each other from node 1 to the end, or one that starts at or before its branch.
+fn has_child_blocks(nodes: &[u64]) -> bool
+    ensures { λ r. ⌜ Decides (ChildBlocks (now (nodes .entry))) r ⌝ }
+{
+    let mut behind = 1;
+    let mut k = 0;
+    while k < nodes.len() {
+        let word = nodes[k];
+        if node::is_branch(word) {
+            let first = node::first_child(word);
+            if first != behind {
+                return true;
+            }
+            if first <= k {
+                return true;
+            }
+            behind = first + node::child_count(word);
+            k += 1;
+        } else {
+            k += 1;
+        }
+    }
+    behind != nodes.len()
+}
+
+// Fault 4: a bad name of a node that is not the root.
+fn has_node_name(nodes: &[u64], names: &[u8]) -> bool
+    ensures { λ r. ⌜ Decides (NodeName (now (nodes .entry)) (now (names .entry))) r ⌝ }
+{
+    let mut k = 1;
+    while k < nodes.len() {
+        if has_bad_name(nodes, names, k) {
+            return true;
+        }
+        k += 1;
+    }
+    false
+}
+
+// Whether the name of a node lies outside the text, has not 1 to 12 bytes, is no name, or has a star that it may not have.
+fn has_bad_name(nodes: &[u64], names: &[u8], k: usize) -> bool
+    requires { ⌜ k < length (now nodes) ⌝ }
+    ensures { λ r. ⌜ Decides (BadName (now (nodes .entry)) (now (names .entry)) k) r ⌝ }
+{
+    let word = nodes[k];
+    let length = node::name_length(word);
+    if length == 0 {
+        return true;
+    }
+    if 12 < length {
+        return true;
+    }
+    if names.len() < node::name_start(word) + length {
+        return true;
+    }
+    let name = node::name(names, word);
+    if !name::is_name(name) {
+        return true;
+    }
+    if !util::stands(name, 0, b'*') {
+        return false;
+    }
+    if node::is_branch(word) {
+        return true;
+    }
+    if node::is_default(word) {
+        return true;
+    }
+    !is_under_root(nodes, k)
+}
+
+// Whether a node is a child of the root.
+fn is_under_root(nodes: &[u64], k: usize) -> bool
+    requires { ⌜ k < length (now nodes) ⌝ }
+    ensures { λ r. ⌜ Decides (Child (now (nodes .entry)) 0 k) r ⌝ }
+{
+    let root = nodes[0];
+    if !node::is_branch(root) {
+        return false;
+    }
+    let first = node::first_child(root);
+    if k < first {
+        return false;
+    }
+    k < first + node::child_count(root)
+}
+
+// Fault 5: two default children in a branch.
+fn has_two_defaults(nodes: &[u64]) -> bool
+    requires { ⌜ Blocks (now nodes) ⌝ }
+    ensures { λ r. ⌜ Decides (TwoDefaults (now (nodes .entry))) r ⌝ }
+{
+    let mut b = 0;
+    while b < nodes.len() {
+        let word = nodes[b];
+        if node::is_branch(word) {
+            let first = node::first_child(word);
+            let end = first + node::child_count(word);
+            if has_two_defaults_in(nodes, first, end) {
+                return true;
+            }
+            b += 1;
+        } else {
+            b += 1;
+        }
+    }
+    false
+}
+
+// Whether two nodes of a block are default.
+fn has_two_defaults_in(nodes: &[u64], first: usize, end: usize) -> bool
+    requires { ⌜ end ≤ length (now nodes) ⌝ }
+    ensures { λ r. ⌜ Decides (TwoDefaultsIn (now (nodes .entry)) first end) r ⌝ }
+{
+    let d = next_default(nodes, first, end);
+    if end <= d {
+        return false;
+    }
+    next_default(nodes, d + 1, end) < end
+}
+
+// The next default node from a place on, or the end where there is none.
+fn next_default(nodes: &[u64], at: usize, end: usize) -> usize
+    requires { ⌜ end ≤ length (now nodes) ⌝ }
+    ensures { λ r. ⌜ NextDefault (now (nodes .entry)) at end r ⌝ }
+{
+    let mut d = at;
+    while d < end {
+        if node::is_default(nodes[d]) {
+            return d;
+        }
+        d += 1;
+    }
+    d
+}
+
+// Fault 6: two near nodes of a branch that share a spelling.
+fn has_shared_spelling(nodes: &[u64], names: &[u8]) -> bool
+    requires { ⌜ Ready (now nodes) (now names) ⌝ }
+    ensures { λ r. ⌜ Decides (SharedSpelling (now (nodes .entry)) (now (names .entry))) r ⌝ }
+{
+    let mut b = 0;
+    while b < nodes.len() {
+        if node::is_branch(nodes[b]) {
+            if shares_at(nodes, names, b) {
+                return true;
+            }
+            b += 1;
+        } else {
+            b += 1;
+        }
+    }
+    false
+}
+
+// Whether two children share a spelling, or a child and a near node of the default branch.
+fn shares_at(nodes: &[u64], names: &[u8], b: usize) -> bool
+    requires { ⌜ Ready (now nodes) (now names) × (branch (now nodes) b ≡ true) ⌝ }
+    ensures { λ r. ⌜ Decides (SharesAt (now (nodes .entry)) (now (names .entry)) b) r ⌝ }
+{
+    let word = nodes[b];
+    let first = node::first_child(word);
+    let end = first + node::child_count(word);
+    if children_share(nodes, names, first, end) {
+        return true;
+    }
+    let d = next_default(nodes, first, end);
+    if end <= d {
+        return false;
+    }
+    if !node::is_branch(nodes[d]) {
+        return false;
+    }
+    near_shares(nodes, names, first, end, d)
+}
+
+// Whether a near node of a branch shares a spelling with a node of a block.
+fn near_shares(nodes: &[u64], names: &[u8], first: usize, end: usize, b: usize) -> bool
+    requires { ⌜ Ready (now nodes) (now names) × (end ≤ length (now nodes)) × (branch (now nodes) b ≡ true) ⌝ }
+    ensures { λ r. ⌜ Decides (NearShares (now (nodes .entry)) (now (names .entry)) first end b) r ⌝ }
+{
+    let word = nodes[b];
+    let from = node::first_child(word);
+    let to = from + node::child_count(word);
+    if blocks_share(nodes, names, first, end, from, to) {
+        return true;
+    }
+    let d = next_default(nodes, from, to);
+    if to <= d {
+        return false;
+    }
+    if !node::is_branch(nodes[d]) {
+        return false;
+    }
+    near_shares(nodes, names, first, end, d)
+}
+
+// Whether two nodes of a block share a spelling.
+fn children_share(nodes: &[u64], names: &[u8], first: usize, end: usize) -> bool
+    requires { ⌜ end ≤ length (now nodes) ⌝ }
+    ensures { λ r. ⌜ Decides (ChildrenShare (now (nodes .entry)) (now (names .entry)) first end) r ⌝ }
+{
+    let mut k = first;
+    while k < end {
+        if block_shares(nodes, names, node::name(names, nodes[k]), k + 1, end) {
+            return true;
+        }
+        k += 1;
+    }
+    false
+}
+
+// Whether a node of the block from..to shares a spelling with one of the block first..end.
+fn blocks_share(
+    nodes: &[u64],
+    names: &[u8],
+    first: usize,
+    end: usize,
+    from: usize,
+    to: usize,
+) -> bool
+    requires { ⌜ (end ≤ length (now nodes)) × (to ≤ length (now nodes)) ⌝ }
+    ensures { λ r. ⌜ Decides (BlocksShare (now (nodes .entry)) (now (names .entry)) first end from to) r ⌝ }
+{
+    let mut k = from;
+    while k < to {
+        if block_shares(nodes, names, node::name(names, nodes[k]), first, end) {
+            return true;
+        }
+        k += 1;
+    }
+    false
+}
+
+// Whether a node of a block shares a spelling with the name.
+fn block_shares(nodes: &[u64], names: &[u8], name: &[u8], first: usize, end: usize) -> bool
+    requires { ⌜ end ≤ length (now nodes) ⌝ }
+    ensures { λ r. ⌜ Decides (SharesIn (now (nodes .entry)) (now (names .entry)) (now (name .entry)) first end) r ⌝ }
+{
+    let mut k = first;
+    while k < end {
+        if name::is_spelling_shared(name, node::name(names, nodes[k])) {
+            return true;
+        }
+        k += 1;
+    }
+    false
+}

@@ -12,7 +12,7 @@ use Rattle.util.specs.Walk.{after}
 use Rattle.util.proofs.Walks.{arrives}
 use Rattle.util.specs.Run.{run, runEnd, standsAt}
 use Rattle.token.specs.View.{partOf}
-use Rattle.data.specs.Follow.{endsData, followed}
+use Rattle.item.specs.Follow.{endsData, followed}
 use Rattle.data.specs.String.{inString, stringEnd, closed, stringData}
 use Rattle.channel_spec.specs.Spec.{inSpec, bang, bangs, dimensionOf, specTo, specAt, isEmpty}
 use Rattle.channel_list.specs.List.{stateOf, opened, taken, refusal, ended, beginsSpec, rangeOf, rangeTo, specsFrom, specsAt, pathOf, pathAt, itemAt, commaBefore, step}

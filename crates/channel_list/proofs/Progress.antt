@@ -17,10 +17,10 @@ use Rattle.util.proofs.Runs.{run-from}
 use Rattle.token.specs.View.{viewOf}
 use Rattle.token.specs.declared.View.{View}
 use Rattle.token.specs.declared.Token.the-variants.{StringProgramData}
+use Rattle.item.specs.declared.Read.{Read}
+use Rattle.item.specs.declared.Read.the-variants as read
+use Rattle.item.proofs.Progress.{run-moves}
 use Rattle.data.specs.String.{stringEnd, stringData}
-use Rattle.data.specs.declared.Read.{Read}
-use Rattle.data.specs.declared.Read.the-variants as read
-use Rattle.data.proofs.Progress.{run-moves}
 use Rattle.data.proofs.Forms.{string-form}
 use Rattle.channel_spec.specs.Spec.{inSpec, specTo, specAt, isEmpty}
 use Rattle.channel_spec.specs.declared.ChannelSpec.{ChannelSpec}

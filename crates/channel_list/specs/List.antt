@@ -10,9 +10,9 @@ use Rattle.error.specs.declared.ErrorCode.the-variants.{InvalidExpression}
 use Rattle.kind.specs.Class.{is, isDigit, isSign, isQuote}
 use Rattle.util.specs.Run.{standsAt}
 use Rattle.token.specs.Token.{viewIn}
+use Rattle.item.specs.declared.Read.{Read}
+use Rattle.item.specs.declared.Read.the-variants as read
 use Rattle.data.specs.String.{stringData}
-use Rattle.data.specs.declared.Read.{Read}
-use Rattle.data.specs.declared.Read.the-variants as read
 use Rattle.channel_spec.specs.Spec.{specAt, isEmpty}
 use Rattle.channel_spec.specs.declared.ChannelSpec.{ChannelSpec}
 use Rattle.channel_list.specs.declared.State.{State}

@@ -4,8 +4,8 @@ ghost use mathlib.Core.Path.{_≡_};
 ghost use lib.ListN.{length};
 ghost use Rattle.channel_list.specs.List.{opened, taken, refusal, beginsSpec, rangeTo, specsAt, pathAt, itemAt, commaBefore, step};
 use channel_spec::ChannelSpec;
-use data::Read;
 use error::ErrorCode;
+use item::Read;
 use token::View;
 
 pub enum Token {

@@ -24,7 +24,7 @@ use Rattle.number.specs.declared.Signed.{Signed}
 use Rattle.number.specs.declared.Signed.the-variants as signed
 use Rattle.number.proofs.Claims as number
 use Rattle.token.specs.View.{partOf}
-use Rattle.data.proofs.Seams.{here-inside, here-stands, here-next}
+use Rattle.item.proofs.Seams.{here-inside, here-stands, here-next}
 use Rattle.channel_spec.specs.Spec.{inSpec, bang, bangs, dimensionOf, specTo, specAt}
 use Rattle.channel_spec.specs.Item.{refusal, bangEnd, itemBy, itemOf, itemAt}
 use Rattle.coordinate.specs.Coordinate as values

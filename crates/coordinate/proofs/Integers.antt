@@ -23,14 +23,14 @@ use Rattle.number.specs.declared.Unsigned.the-variants as unsigned
 use Rattle.number.specs.declared.Signed.{Signed}
 use Rattle.number.specs.declared.Signed.the-variants as signed
 use Rattle.number.proofs.Digits.{decimal}
-use Rattle.data.specs.Decimal.{wholeEnd}
-use Rattle.data.specs.Form.{Whole}
+use Rattle.decimal.specs.Decimal.{wholeEnd}
+use Rattle.decimal.specs.Form.{Whole}
 use Rattle.coordinate.specs.Form.{signedBy, Decimal}
-use Rattle.data.proofs.Accepted.{part}
-use Rattle.data.proofs.Progress.{whole-from}
-use Rattle.data.proofs.Seams.{none-first, here-get, here-inside, here-next}
-use Rattle.data.proofs.Numbers.{whole-sign}
-use Rattle.data.proofs.NumberForms.{whole-form, whole-count}
+use Rattle.item.proofs.Accepted.{part}
+use Rattle.decimal.proofs.Progress.{whole-from}
+use Rattle.item.proofs.Seams.{none-first, here-get, here-inside, here-next}
+use Rattle.decimal.proofs.Numbers.{whole-sign}
+use Rattle.decimal.proofs.NumberForms.{whole-form, whole-count}
 
 -- the value of a sign and a number, where it is one of 64 bits
 abbrev worth : Bool → ℕ → Option ℤ

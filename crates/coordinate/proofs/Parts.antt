@@ -19,8 +19,8 @@ use Rattle.util.proofs.Every.{every-join, every-weaker}
 use Rattle.number.specs.Number.{signedAt}
 use Rattle.number.specs.declared.Signed.{Signed}
 use Rattle.number.specs.declared.Signed.the-variants as signed
-use Rattle.data.specs.Form.{Whole}
-use Rattle.data.proofs.Seams.{here-next}
+use Rattle.item.proofs.Seams.{here-next}
+use Rattle.decimal.specs.Form.{Whole}
 use Rattle.coordinate.specs.Coordinate.{onto, parts, whole, integer, both, integers, written}
 use Rattle.coordinate.specs.Form.{Decimal}
 use Rattle.coordinate.proofs.Integers.{Read, isValue, none-some, some-same, decimal-read, integer-form}

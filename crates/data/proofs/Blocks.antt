@@ -15,10 +15,10 @@ use Rattle.kind.proofs.Tests.{and-left}
 use Rattle.number.specs.declared.Radix.the-variants.{Binary, Octal, Hexadecimal}
 use Rattle.token.specs.View.{viewOf}
 use Rattle.token.specs.declared.Token.the-variants.{ArbitraryBlockData}
-use Rattle.data.specs.Follow.{token, refused, followed}
+use Rattle.item.specs.Follow.{token, refused, followed}
+use Rattle.item.specs.declared.Read.{Read}
 use Rattle.data.specs.Nondecimal.{nondecimalData}
 use Rattle.data.specs.Block.{payload, definite, indefinite, arbitraryData, hashBy, hashData}
-use Rattle.data.specs.declared.Read.{Read}
 
 module _ (s : List ℕ) (start n : ℕ) where
   pub payload-outside′ : length s < start → refused InvalidBlockData ≡ payload s start n

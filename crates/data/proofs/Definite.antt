@@ -22,9 +22,9 @@ use Rattle.number.specs.declared.Unsigned.{Unsigned}
 use Rattle.number.specs.declared.Unsigned.the-variants.{Value, NoDigit, TooLarge}
 use Rattle.number.proofs.Digits.{decimal}
 use Rattle.number.proofs.Values.{taken}
-use Rattle.data.specs.Follow.{refused}
+use Rattle.item.specs.Follow.{refused}
+use Rattle.item.specs.declared.Read.{Read}
 use Rattle.data.specs.Block.{payload, definite}
-use Rattle.data.specs.declared.Read.{Read}
 
 -- what tells two answers apart
 abbrev case : Unsigned → ℕ

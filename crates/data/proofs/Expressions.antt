@@ -12,9 +12,9 @@ use Rattle.kind.specs.Class.{isQuote, isAscii}
 use Rattle.util.specs.Run.{runEnd, standsAt}
 use Rattle.token.specs.View.{viewOf}
 use Rattle.token.specs.declared.Token.the-variants.{ExpressionProgramData}
-use Rattle.data.specs.Follow.{refused, followed}
+use Rattle.item.specs.Follow.{refused, followed}
+use Rattle.item.specs.declared.Read.{Read}
 use Rattle.data.specs.Expression.{inExpression, bracketed, expressionData}
-use Rattle.data.specs.declared.Read.{Read}
 
 module _ (b : ℕ) where
   pub double-quote′ : b ≡ 34 → false ≡ inExpression b

@@ -19,15 +19,16 @@ use Rattle.token.specs.Token.{viewIn}
 use Rattle.token.specs.View.{viewOf}
 use Rattle.token.specs.declared.View.{View}
 use Rattle.token.specs.declared.Token.the-variants.{StringProgramData, ArbitraryBlockData, ExpressionProgramData}
-use Rattle.data.specs.Follow.{token, refused, followed}
+use Rattle.item.specs.Follow.{token, refused, followed}
+use Rattle.item.specs.Form.{Follows, Ended}
+use Rattle.item.proofs.Accepted.{only-then, only-else, only-followed, ended, part-shown, part-run}
+use Rattle.item.proofs.Seams.{here-get, here-inside, here-stands, here-next, here-run, here-length, after-none, white-none, well-followed}
 use Rattle.data.specs.String.{inString, stringEnd, closed, stringData}
 use Rattle.data.specs.Block.{payload, definite, indefinite, arbitraryData}
 use Rattle.data.specs.Expression.{inExpression, bracketed, expressionData}
-use Rattle.data.specs.Form.{Follows, Ended, StringBody, StringForm, BlockForm, ExpressionForm}
+use Rattle.data.specs.Form.{StringBody, StringForm, BlockForm, ExpressionForm}
 use Rattle.data.specs.Form.StringBody.{empty, plain, doubled}
-use Rattle.data.proofs.Accepted.{only-then, only-else, only-followed, ended, part-shown, part-run}
 use Rattle.data.proofs.Strings.{plain as in-plain, doubled as in-doubled}
-use Rattle.data.proofs.Seams.{here-get, here-inside, here-stands, here-next, here-run, here-length, after-none, white-none, well-followed}
 
 -- a byte that stands at a place stands inside the text
 stands-inside : (b : ℕ) (s : List ℕ) (i : ℕ) → standsAt b s i ≡ true → i < length s

@@ -11,9 +11,9 @@ use Rattle.number.specs.declared.Radix.{Radix}
 use Rattle.number.specs.declared.Unsigned.{Unsigned}
 use Rattle.number.specs.declared.Unsigned.the-variants.{Value, NoDigit, TooLarge}
 use Rattle.token.specs.declared.Token.the-variants.{NonDecimalNumericProgramData}
-use Rattle.data.specs.Follow.{refused, followed}
+use Rattle.item.specs.Follow.{refused, followed}
+use Rattle.item.specs.declared.Read.{Read}
 use Rattle.data.specs.Nondecimal.{nondecimalOf, nondecimalData}
-use Rattle.data.specs.declared.Read.{Read}
 
 module _ (radix : Radix) (s : List ℕ) (at : ℕ) (u : Unsigned) (eu : u ≡ unsignedAt radix s at) where
   pub value′ : (v end : ℕ) → u ≡ Value v end → (r : Read) → r ≡ followed (NonDecimalNumericProgramData v) SuffixNotAllowed s end → r ≡ nondecimalData radix s at

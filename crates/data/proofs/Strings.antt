@@ -13,9 +13,9 @@ use Rattle.error.specs.declared.ErrorCode.the-variants.{InvalidCharacter, Inval
 use Rattle.kind.specs.Class.{isAscii}
 use Rattle.token.specs.View.{viewOf}
 use Rattle.token.specs.declared.Token.the-variants.{StringProgramData}
-use Rattle.data.specs.Follow.{refused, followed}
+use Rattle.item.specs.Follow.{refused, followed}
+use Rattle.item.specs.declared.Read.{Read}
 use Rattle.data.specs.String.{inString, stringEnd, closed, stringData}
-use Rattle.data.specs.declared.Read.{Read}
 
 module _ (q b : ℕ) (t : List ℕ) where
   pub plain : eqb b q ≡ false → isAscii b ≡ true → inString q (b ∷ t) ≡ suc (inString q t)

@@ -12,9 +12,9 @@ use Rattle.number.specs.Digit.{valueOf}
 use Rattle.number.specs.declared.Radix.the-variants.{Binary, Octal, Hexadecimal}
 use Rattle.token.specs.View.{viewOf}
 use Rattle.token.specs.declared.Token.the-variants.{ArbitraryBlockData}
-use Rattle.data.specs.Follow.{token, refused, followed}
+use Rattle.item.specs.Follow.{token, refused, followed}
+use Rattle.item.specs.declared.Read.{Read}
 use Rattle.data.specs.Nondecimal.{nondecimalData}
-use Rattle.data.specs.declared.Read.{Read}
 
 -- n bytes from a place on, which must all be there
 unfoldable pub payload : List ℕ → ℕ → ℕ → Read

@@ -8,8 +8,8 @@ use Rattle.kind.specs.Class.{is, isQuote, isAscii}
 use Rattle.util.specs.Run.{runEnd, standsAt}
 use Rattle.token.specs.View.{viewOf}
 use Rattle.token.specs.declared.Token.the-variants.{ExpressionProgramData}
-use Rattle.data.specs.Follow.{refused, followed}
-use Rattle.data.specs.declared.Read.{Read}
+use Rattle.item.specs.Follow.{refused, followed}
+use Rattle.item.specs.declared.Read.{Read}
 
 -- IEEE 488.2 7.7.7.2: ASCII but quotes, `;` and brackets; the standard keeps `#` and control bytes out too (docs/DIFFERENCES.md)
 unfoldable pub inExpression : ℕ → Bool

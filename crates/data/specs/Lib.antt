@@ -1,7 +1,3 @@
-pub mod Follow
-pub mod Near
-pub mod Word
-pub mod Decimal
 pub mod Nondecimal
 pub mod String
 pub mod Block

@@ -10,8 +10,8 @@ use Rattle.number.specs.declared.Radix.{Radix}
 use Rattle.number.specs.declared.Unsigned.{Unsigned}
 use Rattle.number.specs.declared.Unsigned.the-variants.{Value, NoDigit, TooLarge}
 use Rattle.token.specs.declared.Token.the-variants.{NonDecimalNumericProgramData}
-use Rattle.data.specs.Follow.{refused, followed}
-use Rattle.data.specs.declared.Read.{Read}
+use Rattle.item.specs.Follow.{refused, followed}
+use Rattle.item.specs.declared.Read.{Read}
 
 -- by what was found at a place; where there is no digit, the end of the text has another number than a byte that is none
 unfoldable pub nondecimalOf : List ℕ → ℕ → Unsigned → Read

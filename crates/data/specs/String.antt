@@ -8,8 +8,8 @@ use Rattle.error.specs.declared.ErrorCode.the-variants.{InvalidCharacter, Inval
 use Rattle.kind.specs.Class.{isAscii}
 use Rattle.token.specs.View.{viewOf}
 use Rattle.token.specs.declared.Token.the-variants.{StringProgramData}
-use Rattle.data.specs.Follow.{refused, followed}
-use Rattle.data.specs.declared.Read.{Read}
+use Rattle.item.specs.Follow.{refused, followed}
+use Rattle.item.specs.declared.Read.{Read}
 
 -- IEEE 488.2 7.7.5.2: how many characters at the front of a text stand inside a string: ASCII but the quote, and the quote twice
 unfoldable pub inString : ℕ → List ℕ → ℕ

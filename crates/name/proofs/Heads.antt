@@ -1,17 +1,17 @@
 -- Names that begin with two different capitals have no form in common.
 use Prim.Native.Nat.{ℕ, suc, _+_}
-use mathlib.Core.Path.{_≡_, refl, sym, _∙_}
+use mathlib.Core.Path.{_≡_, refl}
 use mathlib.Core.List.{List, [], _∷_}
 use mathlib.Core.Bool.{Bool, true, false, cond, not, _&&_}
 use native.Mathlib.Omega.{arith}
 use lib.Dec.{eqb}
-use lib.ListN.{length, getD, take}
+use lib.ListN.{getD, take}
 use borrow.Author.Tests.{not-true, ne-eqb, eqb-false}
 use Rattle.kind.specs.Class.{isCapital, isDigit}
 use Rattle.kind.proofs.Tests.{and-left, and-right, clash}
 use Rattle.kind.proofs.Classes.{capital-no-digit, capital-no-small}
 use Rattle.util.specs.Run.{run, every}
-use Rattle.mnemonic.specs.Mnemonic.{pairs, folded, eitherCase, notSmall, compares, lastEnd, numericSuffixStart, stem, sameNumericSuffix}
+use Rattle.mnemonic.specs.Mnemonic.{pairs, folded, eitherCase, notSmall, compares, lastEnd, numericSuffixStart, stem}
 use Rattle.name.specs.Name.{startsApart, formOf, shares}
 
 two-cases : (c d : ℕ) → isCapital c ≡ true → isCapital d ≡ true → eqb c d ≡ false → eitherCase c d ≡ false

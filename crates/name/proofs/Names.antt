@@ -1,13 +1,13 @@
 -- The runs that the code passes over are the parts of a name.
 use Prim.Native.Nat.{ℕ, zero, suc, _+_, _≤_, _<_}
-use mathlib.Core.Path.{_≡_, refl, sym, ap, ap₂, _∙_}
+use mathlib.Core.Path.{_≡_, refl, sym, ap, _∙_}
 use mathlib.Core.Logic.{_⊎_, inl, inr}
 use mathlib.Core.List.{List, [], _∷_, _++_}
-use mathlib.Core.Bool.{Bool, true, false, cond, not, _&&_}
+use mathlib.Core.Bool.{Bool, true, false, not, _&&_}
 use native.Mathlib.Nat.{add-zero}
 use native.Mathlib.Omega.{arith}
 use lib.Dec.{eqb, ltb}
-use lib.ListN.{length, getD, take, drop, take-append-drop, length-drop, length-append}
+use lib.ListN.{length, getD, take, drop, take-append-drop, length-drop}
 use lib.Seq.{drop-drop, drop-append-seam, getD-drop, length-take-le}
 use borrow.Author.Needs.{needs}
 use borrow.Author.Tests.{not-true, ltb-true, eqb-true, lt-ltb, eq-eqb, le-ltb}

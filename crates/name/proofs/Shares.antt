@@ -6,15 +6,13 @@ use mathlib.Core.List.{List, [], _∷_, _++_, map}
 use mathlib.Core.Bool.{Bool, true, false, cond, _&&_, _||_}
 use native.Mathlib.Omega.{arith}
 use lib.Dec.{eqb}
-use lib.ListN.{length, take, drop, take-append-drop}
+use lib.ListN.{length}
 use lib.Seq.{take-append-seam, drop-append-seam}
 use borrow.Author.Tests.{eqb-true, eq-eqb}
-use Rattle.kind.specs.Class.{isCapital, isDigit}
 use Rattle.kind.proofs.Tests.{either, or-left, or-right, and-left, and-right, and-both, clash}
 use Rattle.util.specs.Decides.{Decides}
-use Rattle.util.specs.Run.{run, every}
 use Rattle.util.proofs.Decided.{by-both}
-use Rattle.mnemonic.specs.Mnemonic.{pairs, folded, eitherCase, alike, same, notSmall, compares, numericSuffixStart, stem, numericSuffix, sameNumericSuffix}
+use Rattle.mnemonic.specs.Mnemonic.{pairs, folded, eitherCase, alike, same, compares, numericSuffixStart, stem, numericSuffix, sameNumericSuffix}
 use Rattle.mnemonic.specs.Spelling.{Name, long, short, spells}
 use Rattle.mnemonic.proofs.Alike.{suffix-itself, start-behind}
 use Rattle.mnemonic.proofs.Spelling.{form-compares, forms-of, short-ends}

@@ -14,11 +14,11 @@ use Rattle.kind.proofs.Tests.{less-or-not}
 use Rattle.util.specs.Walk.{after}
 use Rattle.util.proofs.Walks.{arrives}
 use Rattle.util.specs.Run.{run, runEnd, signEnd, standsAt}
-use Rattle.data.specs.Decimal.{wholeEnd, hasWhole, fractionEnd, hasFraction, mantissa, beginsExponent, exponent, withExponent, number, numberTo, nrf}
+use Rattle.decimal.specs.Decimal.{wholeEnd, hasWhole, fractionEnd, hasFraction, mantissa, beginsExponent, exponent, withExponent, number, numberTo, nrf}
 use Rattle.token.specs.View.{viewOf}
-use Rattle.data.specs.Form.{Number, Stops}
-use Rattle.data.proofs.Seams.{here-get, here-stands, here-next}
-use Rattle.data.proofs.Numbers.{nrf-read}
+use Rattle.decimal.specs.Form.{Number, Stops}
+use Rattle.item.proofs.Seams.{here-get, here-stands, here-next}
+use Rattle.decimal.proofs.Numbers.{nrf-read}
 use Rattle.numeric_list.specs.List.{stateOf, taken, refusal, rangeBy, rangeTo, itemBy, itemAt, begins, commaBefore, step}
 use Rattle.numeric_list.specs.Claims.{stateBehind, behindComma, Item, Rows, Claims}
 use Rattle.numeric_list.specs.declared.State.{State}

@@ -13,9 +13,9 @@ use Rattle.util.specs.Run.{standsAt}
 use Rattle.token.specs.View.{viewOf}
 use Rattle.token.specs.declared.View.{View}
 use Rattle.token.specs.declared.Token as token
-use Rattle.data.specs.Decimal.{nrf}
-use Rattle.data.specs.declared.Read.{Read}
-use Rattle.data.specs.declared.Read.the-variants as read
+use Rattle.item.specs.declared.Read.{Read}
+use Rattle.item.specs.declared.Read.the-variants as read
+use Rattle.decimal.specs.Decimal.{nrf}
 use Rattle.numeric_list.specs.List.{stateOf, taken, refusal, rangeBy, rangeTo, itemBy, itemAt, begins, commaBefore, step}
 use Rattle.numeric_list.specs.declared.State.{State}
 use Rattle.numeric_list.specs.declared.Token.{Token}

@@ -10,12 +10,13 @@ use borrow.Author.Tests.{lt-leb}
 use Rattle.kind.proofs.Tests.{by-test}
 use Rattle.util.specs.Run.{standsAt}
 use Rattle.token.specs.View.{viewOf, partOf}
-use Rattle.data.specs.Form.{Number}
-use Rattle.data.specs.Decimal.{nrf}
-use Rattle.data.specs.declared.Read.{Read}
-use Rattle.data.specs.declared.Read.the-variants as read
-use Rattle.data.proofs.Progress.{Behind, nrf-behind}
-use Rattle.data.proofs.NumberForms.{nrf-form}
+use Rattle.item.specs.declared.Read.{Read}
+use Rattle.item.specs.declared.Read.the-variants as read
+use Rattle.item.proofs.Progress.{Behind}
+use Rattle.decimal.specs.Form.{Number}
+use Rattle.decimal.specs.Decimal.{nrf}
+use Rattle.decimal.proofs.Progress.{nrf-behind}
+use Rattle.decimal.proofs.NumberForms.{nrf-form}
 use Rattle.numeric_list.specs.List.{taken, refusal, rangeBy, rangeTo, itemBy, itemAt, begins, commaBefore, step}
 use Rattle.numeric_list.specs.Claims.{behindComma, Item}
 use Rattle.numeric_list.specs.declared.State.{State}

@@ -12,7 +12,7 @@ use Rattle.kind.specs.Class.{is}
 use Rattle.util.specs.Walk.{after}
 use Rattle.util.specs.Run.{standsAt}
 use Rattle.token.specs.View.{viewOf, partOf}
-use Rattle.data.specs.Form.{Number, Stops}
+use Rattle.decimal.specs.Form.{Number, Stops}
 use Rattle.numeric_list.specs.List.{stateOf, ofList, taken, itemAt, step}
 use Rattle.numeric_list.specs.declared.State.{State}
 use Rattle.numeric_list.specs.declared.Token as token

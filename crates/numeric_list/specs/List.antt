@@ -10,9 +10,9 @@ use Rattle.kind.specs.Class.{is, isDigit}
 use Rattle.util.specs.Run.{standsAt}
 use Rattle.token.specs.View.{viewOf}
 use Rattle.token.specs.declared.View.{View}
-use Rattle.data.specs.Decimal.{nrf}
-use Rattle.data.specs.declared.Read.{Read}
-use Rattle.data.specs.declared.Read.the-variants as read
+use Rattle.item.specs.declared.Read.{Read}
+use Rattle.item.specs.declared.Read.the-variants as read
+use Rattle.decimal.specs.Decimal.{nrf}
 use Rattle.numeric_list.specs.declared.State.{State}
 use Rattle.numeric_list.specs.declared.Token.{Token}
 use Rattle.numeric_list.specs.declared.Token.the-variants.{Numeric, NumericRange}

@@ -1,8 +1,8 @@
 // Numeric lists, SCPI-99 8.3.3. expression/numeric_list.rs of the original.
 ghost use mathlib.Core.Path.{_≡_};
 ghost use Rattle.numeric_list.specs.List.{ofList, taken, refusal, begins, rangeTo, itemAt, commaBefore, step};
-use data::Read;
 use error::ErrorCode;
+use item::Read;
 use token::View;
 
 pub enum Token {
@@ -91,7 +91,7 @@ fn begins(b: u8, first: bool) -> bool
 fn item(s: &[u8], at: usize, state: State) -> Step
     ensures { λ r. ⌜ r ≡ itemAt (now (s .entry)) state at ⌝ }
 {
-    match data::read_nrf(s, at) {
+    match decimal::read_nrf(s, at) {
         Read::Token { token: _, next } => {
             let begin = View {
                 start: at,
@@ -113,7 +113,7 @@ fn item(s: &[u8], at: usize, state: State) -> Step
 fn range(s: &[u8], at: usize, state: State, begin: View) -> Step
     ensures { λ r. ⌜ r ≡ rangeTo (now (s .entry)) state at begin ⌝ }
 {
-    match data::read_nrf(s, at) {
+    match decimal::read_nrf(s, at) {
         Read::Token { token: _, next } => taken(
             Token::NumericRange(
                 begin,

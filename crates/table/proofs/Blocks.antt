@@ -1,5 +1,5 @@
 -- Laws of fault 3, as the code meets them.
-use Prim.Native.Nat.{ℕ, suc, _+_, _≤_, _<_}
+use Prim.Native.Nat.{ℕ, _+_, _≤_, _<_}
 use mathlib.Core.Path.{_≡_, refl, sym, _∙_}
 use mathlib.Core.Logic.{_⊎_, inl, inr}
 use mathlib.Core.List.{List}
@@ -11,12 +11,12 @@ use lib.ListN.{length, getD, List·getD-eq-default}
 use mir.Syntax.{w64}
 use mir.Val.{Fits}
 use borrow.Author.Needs.{needs}
-use borrow.Author.Tests.{not-true, not-false, eqb-true, eqb-false, eq-eqb, ne-eqb}
+use borrow.Author.Tests.{not-true, eqb-false, ne-eqb}
 use Rattle.kind.proofs.Tests.{clash, less-or-not}
-use Rattle.util.specs.Decides.{Decides, holds, fails}
+use Rattle.util.specs.Decides.{Decides, holds}
 use Rattle.util.proofs.Decided.{by-both}
 use Rattle.node.specs.Word.{isBranch, firstChild, childCount}
-use Rattle.node.specs.Tree.{branch, first, count}
+use Rattle.node.specs.Tree.{branch, first}
 use Rattle.node.proofs.Laws.{block-ends}
 use Rattle.table.specs.Fault.{behind, ChildBlocks, not-behind, not-to-end, too-early}
 use Rattle.table.proofs.Before.{Before, none-yet, one-more}

@@ -8,7 +8,6 @@ use native.Mathlib.Decide.{ℕ-discrete}
 use native.Mathlib.Omega.{arith}
 use lib.Dec.{eqb}
 use lib.IntN.{pos}
-use lib.ListN.{length}
 use Rattle.error.specs.Code.{codeOf}
 use Rattle.error.specs.declared.ErrorCode.{ErrorCode}
 use Rattle.error.specs.declared.ErrorCode.the-variants as code

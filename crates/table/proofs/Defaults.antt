@@ -1,6 +1,6 @@
 -- Laws of fault 5, as the code meets them.
 use Prim.Native.Nat.{ℕ, _+_, _≤_, _<_}
-use mathlib.Core.Path.{_≡_, refl, sym, _∙_}
+use mathlib.Core.Path.{_≡_, sym, _∙_}
 use mathlib.Core.Logic.{_⊎_, inl, inr}
 use mathlib.Core.List.{List}
 use mathlib.Core.Bool.{Bool, true, false}
@@ -14,7 +14,7 @@ use Rattle.kind.proofs.Tests.{clash, less-or-not}
 use Rattle.util.specs.Decides.{Decides, holds, fails}
 use Rattle.util.proofs.Decided.{by-both, it-holds, it-fails}
 use Rattle.node.specs.Word.{isBranch, isDefault, firstChild, childCount}
-use Rattle.node.specs.Tree.{branch, default, first, count, Child}
+use Rattle.node.specs.Tree.{branch, default, first, count}
 use Rattle.table.specs.Fault.{TwoDefaults}
 use Rattle.table.specs.Parts.{TwoDefaultsIn, NextDefault, Blocks}
 use Rattle.table.proofs.Before.{Before, none-yet, one-more}

@@ -1,7 +1,6 @@
 -- Laws of the faults 1 and 2, as the code meets them.
 use Prim.Native.Nat.{ℕ, _+_, _≤_, _<_}
 use mathlib.Core.Path.{_≡_, refl, sym, _∙_}
-use mathlib.Core.Logic.{_⊎_, inl, inr}
 use mathlib.Core.List.{List}
 use mathlib.Core.Bool.{Bool, true, false, not, _&&_, _||_}
 use native.Mathlib.Omega.{arith}
@@ -9,11 +8,10 @@ use lib.Dec.{eqb, ltb}
 use lib.ListN.{length, getD, List·getD-eq-default}
 use borrow.Author.Needs.{needs}
 use borrow.Author.Tests.{not-true, not-false, ltb-true, lt-ltb, eqb-true, eqb-false, eq-eqb, ne-eqb}
-use Rattle.kind.proofs.Tests.{and-left, and-right, or-right, either, clash, less-or-not}
+use Rattle.kind.proofs.Tests.{and-left, and-right, clash}
 use Rattle.util.specs.Decides.{Decides, holds, fails}
 use Rattle.util.proofs.Decided.{by-both}
 use Rattle.node.specs.Word.{isBranch, isDefault, nameLength, nameStart, childCount, spareBits}
-use Rattle.node.specs.Tree.{branch}
 use Rattle.table.specs.Fault.{NodeCount, no-node, too-many, NodeFields, spare-bits, root-no-branch, root-default, root-name-length, root-name-start, leaf-children}
 use Rattle.table.specs.Parts.{isRoot, hasFields}
 use Rattle.table.proofs.Before.{Before, none-yet, one-more}

@@ -1,17 +1,14 @@
 -- Laws of fault 4, as the code meets them.
 use Prim.Native.Nat.{ℕ, _+_, _≤_, _<_}
 use mathlib.Core.Path.{_≡_, refl, sym, _∙_}
-use mathlib.Core.Logic.{_⊎_, inl, inr}
 use mathlib.Core.List.{List}
 use mathlib.Core.Bool.{Bool, true, false, not}
 use native.Mathlib.Omega.{arith}
 use lib.Dec.{ltb}
 use lib.ListN.{length, getD}
-use mir.Syntax.{w64}
-use mir.Val.{Fits}
 use borrow.Author.Needs.{needs}
 use borrow.Author.Tests.{not-true, not-false, ltb-true, lt-ltb}
-use Rattle.kind.proofs.Tests.{clash, less-or-not}
+use Rattle.kind.proofs.Tests.{clash}
 use Rattle.util.specs.Decides.{Decides, holds, fails}
 use Rattle.util.specs.Run.{standsAt}
 use Rattle.util.proofs.Decided.{by-both, it-holds, it-fails}

@@ -1,6 +1,6 @@
 -- A table whose blocks follow each other is a tree: each node but the root has one holder, before it.
 use Prim.Native.Nat.{ℕ, zero, suc, _+_, _≤_, _<_}
-use mathlib.Core.Path.{_≡_, refl, sym, _∙_}
+use mathlib.Core.Path.{_≡_, refl}
 use mathlib.Core.Logic.{_⊎_, inl, inr}
 use mathlib.Core.List.{List}
 use mathlib.Core.Bool.{Bool, true, false, cond}
@@ -8,8 +8,8 @@ use native.Mathlib.Decide.{ℕ-discrete}
 use native.Mathlib.Nat.{le-refl}
 use native.Mathlib.Omega.{arith}
 use lib.ListN.{length}
-use Rattle.kind.proofs.Tests.{clash, less-or-not}
-use Rattle.node.specs.Tree.{branch, default, first, count, Child, Near, child, under}
+use Rattle.kind.proofs.Tests.{less-or-not}
+use Rattle.node.specs.Tree.{branch, first, count, Child, Near, child, under}
 use Rattle.table.specs.Fault.{behind, ChildBlocks, not-behind, not-to-end, too-early}
 use Rattle.table.proofs.Blocks.{in-table}
 

@@ -1,7 +1,6 @@
 -- Laws of fault 6, as the code meets them.
 use Prim.Native.Nat.{ℕ, _+_, _-_, _≤_, _<_}
-use mathlib.Core.Path.{_≡_, refl, sym, ap, subst, _∙_}
-use mathlib.Core.Logic.{_⊎_, inl, inr}
+use mathlib.Core.Path.{_≡_, sym, _∙_}
 use mathlib.Core.List.{List}
 use mathlib.Core.Bool.{Bool, true, false, not}
 use native.Mathlib.Decide.{ℕ-discrete}
@@ -9,17 +8,16 @@ use native.Mathlib.Omega.{arith}
 use lib.ListN.{length, getD}
 use borrow.Author.Needs.{needs}
 use borrow.Author.Tests.{not-true, not-false}
-use Rattle.kind.proofs.Tests.{clash, less-or-not}
+use Rattle.kind.proofs.Tests.{clash}
 use Rattle.util.specs.Decides.{Decides, holds, fails}
 use Rattle.util.proofs.Decided.{it-holds, it-fails}
 use Rattle.name.specs.Name.{shares}
 use Rattle.node.specs.Word.{isBranch, firstChild, childCount, nameIn}
 use Rattle.node.specs.Tree.{branch, default, first, count, nameOf, Child, Near, child, under}
-use Rattle.table.specs.Fault.{TwoDefaults}
-use Rattle.table.specs.Parts.{NextDefault, SharesIn, ChildrenShare, BlocksShare, NearShares, SharesAt, children, below, Blocks, Ready}
+use Rattle.table.specs.Parts.{NextDefault, SharesIn, ChildrenShare, BlocksShare, NearShares, SharesAt, children, below, Ready}
 use Rattle.table.proofs.Before.{Before, none-yet, one-more}
 use Rattle.table.proofs.Blocks.{in-table, block-fits′}
-use Rattle.table.proofs.Shape.{after, block-in, child-in, near-branch}
+use Rattle.table.proofs.Shape.{after, block-in, near-branch}
 use Rattle.table.proofs.Defaults.{not-before}
 
 -- one name against a block

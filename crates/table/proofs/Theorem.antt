@@ -1,28 +1,27 @@
 -- It is enough to compare, at each branch, its children with each other and with the near nodes of its default branch.
-use Prim.Native.Nat.{ℕ, _+_, _-_, _≤_, _<_}
+use Prim.Native.Nat.{ℕ, _+_, _≤_, _<_}
 use mathlib.Core.Path.{_≡_, refl, sym, subst, _∙_}
 use mathlib.Core.Logic.{_⊎_, inl, inr}
 use mathlib.Core.List.{List}
-use mathlib.Core.Bool.{Bool, true, false, not}
+use mathlib.Core.Bool.{Bool, true, false}
 use native.Mathlib.Decide.{ℕ-discrete}
 use native.Mathlib.Omega.{arith}
 use lib.ListN.{length, getD}
 use borrow.Author.Needs.{needs}
-use borrow.Author.Tests.{not-true, not-false}
 use Rattle.kind.proofs.Tests.{clash, less-or-not}
 use Rattle.util.specs.Decides.{Decides, holds, fails}
-use Rattle.util.proofs.Decided.{by-both, it-holds, it-fails}
+use Rattle.util.proofs.Decided.{it-holds, it-fails}
 use Rattle.mnemonic.specs.Spelling.{Name}
 use Rattle.name.specs.Name.{shares, Share}
 use Rattle.name.proofs.Shares.{sharing}
 use Rattle.name.proofs.Names.{surely}
-use Rattle.node.specs.Word.{isBranch, firstChild, childCount}
-use Rattle.node.specs.Tree.{branch, default, first, count, nameOf, Child, Near, child, under}
+use Rattle.node.specs.Word.{isBranch}
+use Rattle.node.specs.Tree.{branch, default, nameOf, Child, Near, child, under}
 use Rattle.table.specs.Fault.{ChildBlocks, no-name, SharedSpelling}
-use Rattle.table.specs.Parts.{NextDefault, SharesIn, ChildrenShare, NearShares, SharesAt, children, below, Ready}
+use Rattle.table.specs.Parts.{SharesAt, children, below, Ready}
 use Rattle.table.proofs.Before.{Before, none-yet, one-more}
-use Rattle.table.proofs.Blocks.{in-table, block-fits′}
-use Rattle.table.proofs.Shape.{near-branch, child-in, child-after, elsewhere, near-in}
+use Rattle.table.proofs.Blocks.{in-table}
+use Rattle.table.proofs.Shape.{child-in, elsewhere, near-in}
 
 flip : {a b : List ℕ} → Share a b → Share b a
 flip s = record { word = s .word; one = s .other; other = s .one }

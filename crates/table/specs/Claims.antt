@@ -1,5 +1,5 @@
 -- What is proved of these definitions, besides the promise of the check. The proofs are in proofs/Claims.
-use Prim.Native.Nat.{ℕ, _≤_, _<_}
+use Prim.Native.Nat.{ℕ, _<_}
 use mathlib.Core.Path.{_≡_}
 use mathlib.Core.List.{List}
 use mathlib.Core.Bool.{true}

@@ -70,19 +70,19 @@ fn has_node_fields(nodes: &[u64]) -> bool
 }
 
 // A root is a branch that is not default and has no name.
-fn is_root(word: u64) -> bool
-    ensures { λ r. ⌜ r ≡ isRoot word ⌝ }
+fn is_root(root: u64) -> bool
+    ensures { λ r. ⌜ r ≡ isRoot root ⌝ }
 {
-    if !node::is_branch(word) {
+    if !node::is_branch(root) {
         return false;
     }
-    if node::is_default(word) {
+    if node::is_default(root) {
         return false;
     }
-    if node::name_length(word) != 0 {
+    if node::name_length(root) != 0 {
         return false;
     }
-    node::name_start(word) == 0
+    node::name_start(root) == 0
 }
 
 // A node has no spare bit set, and a leaf no children.
@@ -264,14 +264,14 @@ fn shares_at(nodes: &[u64], names: &[u8], b: usize) -> bool
     if children_share(nodes, names, first, end) {
         return true;
     }
-    let d = next_default(nodes, first, end);
-    if end <= d {
+    let child = next_default(nodes, first, end);
+    if end <= child {
         return false;
     }
-    if !node::is_branch(nodes[d]) {
+    if !node::is_branch(nodes[child]) {
         return false;
     }
-    near_shares(nodes, names, first, end, d)
+    near_shares(nodes, names, first, end, child)
 }
 
 // Whether a near node of a branch shares a spelling with a node of a block.

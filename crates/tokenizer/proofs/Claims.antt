@@ -15,9 +15,9 @@ use Rattle.util.proofs.Walks.{arrives}
 use Rattle.util.specs.Run.{run, runEnd, signEnd, standsAt, every}
 use Rattle.number.specs.Digit.{digitOf, isDigitOf, valueOf}
 use Rattle.number.specs.Number.{digits, foundAt, unsignedOf, unsignedAt}
-use Rattle.data.specs.Follow.{endsData, followed}
-use Rattle.data.specs.Word.{starEnd, mnemonic}
-use Rattle.data.specs.Decimal.{wholeEnd, hasWhole, fractionEnd, mantissa, beginsExponent, exponent, withExponent, number, inSuffix, beginsSuffix, suffixed, suffixData, numericTo, numericData}
+use Rattle.item.specs.Follow.{endsData, followed}
+use Rattle.item.specs.Word.{starEnd, mnemonic}
+use Rattle.decimal.specs.Decimal.{wholeEnd, hasWhole, fractionEnd, mantissa, beginsExponent, exponent, withExponent, number, inSuffix, beginsSuffix, suffixed, suffixData, numericTo, numericData}
 use Rattle.data.specs.Nondecimal.{nondecimalOf, nondecimalData}
 use Rattle.data.specs.Block.{payload, definite, indefinite, arbitraryData, hashBy, hashData}
 use Rattle.tokenizer.specs.Step.{stateOf, inHeader, inCommon, taken, refusal, ended, readAs, outside, byKind, step}

@@ -18,14 +18,16 @@ use Rattle.util.specs.Run.{runEnd, standsAt}
 use Rattle.util.proofs.Runs.{run-from}
 use Rattle.token.specs.declared.Token.{Token}
 use Rattle.token.specs.declared.Token.the-variants.{HeaderMnemonicSeparator, HeaderQuerySuffix, ProgramMessageUnitSeparator, ProgramHeaderSeparator, ProgramDataSeparator}
-use Rattle.data.specs.Word.{mnemonic, characterData}
-use Rattle.data.specs.Decimal.{numericData}
+use Rattle.item.specs.Word.{mnemonic, characterData}
+use Rattle.item.specs.declared.Read.{Read}
+use Rattle.item.specs.declared.Read.the-variants as read
+use Rattle.item.proofs.Progress.{Behind, run-moves, common-behind, header-behind, character-behind}
+use Rattle.decimal.specs.Decimal.{numericData}
+use Rattle.decimal.proofs.Progress.{numeric-behind}
 use Rattle.data.specs.String.{stringData}
 use Rattle.data.specs.Block.{hashData}
 use Rattle.data.specs.Expression.{expressionData}
-use Rattle.data.specs.declared.Read.{Read}
-use Rattle.data.specs.declared.Read.the-variants as read
-use Rattle.data.proofs.Progress.{Behind, run-moves, numeric-behind, expression-behind, string-behind, hash-behind, common-behind, header-behind, character-behind}
+use Rattle.data.proofs.Progress.{expression-behind, string-behind, hash-behind}
 use Rattle.tokenizer.specs.Step.{inHeader, inCommon, taken, refusal, ended, readAs, newlineBefore, followsColon, colonBefore, followsQuery, questionBefore, commaTo, commaBefore, wordAt, outside, byKind, step}
 use Rattle.tokenizer.specs.declared.State.{State}
 use Rattle.tokenizer.specs.declared.Step.{Step}

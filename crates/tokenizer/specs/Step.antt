@@ -12,13 +12,13 @@ use Rattle.kind.specs.Kind.{kindOf, newline, blank, star, colon, question, semi
 use Rattle.util.specs.Run.{runEnd, standsAt}
 use Rattle.token.specs.declared.Token.{Token}
 use Rattle.token.specs.declared.Token.the-variants.{HeaderMnemonicSeparator, HeaderQuerySuffix, ProgramMessageUnitSeparator, ProgramHeaderSeparator, ProgramDataSeparator}
-use Rattle.data.specs.Word.{mnemonic, characterData}
-use Rattle.data.specs.Decimal.{numericData}
+use Rattle.item.specs.Word.{mnemonic, characterData}
+use Rattle.item.specs.declared.Read.{Read}
+use Rattle.item.specs.declared.Read.the-variants as read
+use Rattle.decimal.specs.Decimal.{numericData}
 use Rattle.data.specs.String.{stringData}
 use Rattle.data.specs.Block.{hashData}
 use Rattle.data.specs.Expression.{expressionData}
-use Rattle.data.specs.declared.Read.{Read}
-use Rattle.data.specs.declared.Read.the-variants as read
 use Rattle.tokenizer.specs.declared.State.{State}
 use Rattle.tokenizer.specs.declared.Answer.the-variants as answer
 use Rattle.tokenizer.specs.declared.Step.{Step}

@@ -2,11 +2,11 @@
 ghost use mathlib.Core.Path.{_≡_};
 ghost use mathlib.Core.Bool.{true, false};
 ghost use Rattle.tokenizer.specs.Step.{stateOf, ofMessage, ofData, taken, refusal, readAs, newlineBefore, followsColon, colonBefore, followsQuery, questionBefore, commaBefore, wordAt, outside, step};
-ghost use Rattle.data.specs.Decimal.{numericData};
+ghost use Rattle.decimal.specs.Decimal.{numericData};
 ghost use Rattle.data.specs.String.{stringData};
 ghost use Rattle.data.specs.Block.{hashData};
-use data::Read;
 use error::ErrorCode;
+use item::Read;
 use token::Token;
 
 // Where a step begins: its place, and whether that is in a header and in a common command.
@@ -67,7 +67,7 @@ pub fn next(s: &[u8], state: State) -> Step
             let next = util::skip_ws(s, at);
             taken(Token::ProgramHeaderSeparator, next, false, state.in_common)
         }
-        kind::STAR => form(s, state, data::read_mnemonic(s, at), true),
+        kind::STAR => form(s, state, item::read_mnemonic(s, at), true),
         kind::COLON => colon(s, at + 1, state),
         kind::QUESTION => question(s, at + 1, state),
         kind::SEMICOLON => {
@@ -202,9 +202,9 @@ fn word(s: &[u8], at: usize, state: State) -> Step
     ensures { λ r. ⌜ r ≡ wordAt (now (s .entry)) state at ⌝ }
 {
     if state.in_header {
-        return form(s, state, data::read_mnemonic(s, at), state.in_common);
+        return form(s, state, item::read_mnemonic(s, at), state.in_common);
     }
-    form(s, state, data::read_character_data(s, at), state.in_common)
+    form(s, state, item::read_character_data(s, at), state.in_common)
 }
 
 // A `#` before a place begins a block or a number in another radix.
@@ -239,7 +239,7 @@ fn number(s: &[u8], at: usize, state: State) -> Step
     if state.in_header {
         return refused(s, state, ErrorCode::CommandHeaderError);
     }
-    form(s, state, data::read_numeric_data(s, at), state.in_common)
+    form(s, state, decimal::read_numeric_data(s, at), state.in_common)
 }
 
 // What was read as the answer of a step that leaves the header as it was.

@@ -1,5 +1,5 @@
 -- Questions answered by a test.
-use mathlib.Core.Path.{_≡_, refl, sym, _∙_}
+use mathlib.Core.Path.{_≡_, refl}
 use mathlib.Core.Bool.{Bool, true, false}
 use Rattle.kind.proofs.Tests.{clash}
 use Rattle.util.specs.Decides.{Decides, holds, fails}

@@ -1,0 +1,6 @@
+-- Laws that belong to no one function.
+pub mod Decimals
+pub mod Numbers
+pub mod NumberForms
+pub mod Claims
+pub mod Progress

@@ -1,0 +1,7 @@
+-- Laws that belong to no one function.
+pub mod Follow
+pub mod Among
+pub mod Words
+pub mod Seams
+pub mod Accepted
+pub mod Progress

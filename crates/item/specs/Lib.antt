@@ -1,0 +1,4 @@
+pub mod Follow
+pub mod Near
+pub mod Word
+pub mod Form

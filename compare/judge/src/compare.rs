@@ -1,10 +1,10 @@
-//! Runs both programs on the same cases and compares each answer as it comes.
+//! Runs the programs on the same cases and compares each answer as it comes.
 
 use std::io::{BufRead, BufReader, BufWriter, Write};
 use std::process::{Child, ChildStdin, ChildStdout, Command, Stdio};
 use std::thread;
 
-use crate::kinds::Kind;
+use crate::kinds::{Kind, Listed, Right};
 use crate::request::clear;
 
 /// So many differences that are not listed are shown.
@@ -13,12 +13,12 @@ const SHOWN: usize = 10;
 /// So many characters of a line are shown.
 const WIDTH: usize = 2_000;
 
-/// Whether the port answers as the Rust does, or as is listed, in every case.
+/// Whether the port gives the right answer in every case. The Rust is started only where the right answers come from it.
 pub fn compare(
     kind: &Kind,
     n: usize,
     seed: u64,
-    rust: &[&str],
+    rust: &str,
     port: &[&str],
 ) -> Result<bool, String> {
     let mut for_rust = (kind.cases)(n, seed);
@@ -38,16 +38,31 @@ pub fn compare(
         let for_port = for_port.by_ref().take(share);
         // Each program is fed by a thread of its own, so that neither can keep the other waiting.
         thread::scope(|scope| {
-            let mut rust = Side::start("the Rust original", rust)?;
             let mut port = Side::start("the port", port)?;
-            let (to_rust, to_port) = (rust.questions(), port.questions());
-            scope.spawn(move || feed(to_rust, for_rust));
+            let to_port = port.questions();
             scope.spawn(move || feed(to_port, for_port));
-            for request in asked.by_ref().take(share) {
-                let case = tally.done + 1;
-                tally.count(&request, rust.answer(case)?, port.answer(case)?);
+            let asked = asked.by_ref().take(share);
+            match kind.right {
+                Right::Rust(expected) => {
+                    let mut rust = Side::start("the Rust original", &[rust])?;
+                    let to_rust = rust.questions();
+                    scope.spawn(move || feed(to_rust, for_rust));
+                    for request in asked {
+                        let case = tally.done + 1;
+                        let rust = rust.answer(case)?;
+                        let listed = expected(&request, &String::from_utf8_lossy(rust));
+                        tally.count(&request, rust, listed, port.answer(case)?);
+                    }
+                    rust.finish()?;
+                }
+                Right::Judge(answer) => {
+                    for request in asked {
+                        let right = answer(&request);
+                        let case = tally.done + 1;
+                        tally.count(&request, right.as_bytes(), None, port.answer(case)?);
+                    }
+                }
             }
-            rust.finish()?;
             port.finish()
         })?;
     }
@@ -71,7 +86,7 @@ fn feed(questions: ChildStdin, requests: impl Iterator<Item = String>) {
     }
 }
 
-/// One of the two programs, running.
+/// A program, running.
 struct Side {
     who: &'static str,
     child: Child,
@@ -167,29 +182,29 @@ struct Tally<'a> {
 }
 
 impl Tally<'_> {
-    fn count(&mut self, request: &str, rust: &[u8], port: &[u8]) {
+    /// What the port says is held to what the Rust or the judge says, or to what is listed.
+    fn count(&mut self, request: &str, said: &[u8], listed: Option<Listed>, port: &[u8]) {
         self.done += 1;
-        let listed = (self.kind.expected)(request, &String::from_utf8_lossy(rust));
         let right = match &listed {
             Some((_, answer)) => answer.as_bytes(),
-            None => rust,
+            None => said,
         };
-        if port != rust || port != right {
+        if port != said || port != right {
             self.differ += 1;
             match listed {
                 Some((entry, _)) if port == right => {
                     self.listed += 1;
                     if !self.entries.contains(&entry) {
                         self.entries.push(entry);
-                        self.show(&format!("differs as listed: {entry}"), request, rust, port);
+                        self.show(&format!("differs as listed: {entry}"), request, said, port);
                     }
                 }
                 _ if self.differ - self.listed > SHOWN => {}
                 Some((entry, answer)) => {
-                    self.show(&format!("is not as listed: {entry}"), request, rust, port);
+                    self.show(&format!("is not as listed: {entry}"), request, said, port);
                     println!("  listed   {}", cut(&answer));
                 }
-                None => self.show("differs", request, rust, port),
+                None => self.show("differs", request, said, port),
             }
         }
         if self.done % (self.n / 20).max(1) == 0 {
@@ -200,11 +215,15 @@ impl Tally<'_> {
         }
     }
 
-    fn show(&self, how: &str, request: &str, rust: &[u8], port: &[u8]) {
+    fn show(&self, how: &str, request: &str, said: &[u8], port: &[u8]) {
+        let who = match self.kind.right {
+            Right::Rust(_) => "rust ",
+            Right::Judge(_) => "judge",
+        };
         println!("case {} {how}", self.done);
         println!("  input    {}", cut(&clear(request)));
         println!("  request  {}", cut(request));
-        println!("  rust     {}", cut(&rust.escape_ascii().to_string()));
+        println!("  {who}    {}", cut(&said.escape_ascii().to_string()));
         println!("  port     {}", cut(&port.escape_ascii().to_string()));
     }
 }

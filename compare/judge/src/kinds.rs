@@ -7,12 +7,20 @@ pub type Cases = Box<dyn Iterator<Item = String> + Send>;
 /// The heading of an entry in docs/DIFFERENCES.md, and the answer that the port must give by it.
 pub type Listed = (&'static str, String);
 
+/// Who says the right answer.
+pub enum Right {
+    /// The Rust, except where a difference is listed: what is listed for this request, which the Rust answers so. None where
+    /// the port must answer the same.
+    Rust(fn(request: &str, rust: &str) -> Option<Listed>),
+    /// The judge, where the Rust has no such part.
+    Judge(fn(request: &str) -> String),
+}
+
 pub struct Kind {
     pub name: &'static str,
     /// N request lines, the same ones for the same seed.
     pub cases: fn(n: usize, seed: u64) -> Cases,
-    /// What is listed for this request, which the Rust answers so. None where the port must answer the same.
-    pub expected: fn(request: &str, rust: &str) -> Option<Listed>,
+    pub right: Right,
     /// After so many cases both programs are started anew.
     pub restart: Option<usize>,
 }
@@ -52,7 +60,7 @@ macro_rules! kinds {
         pub const KINDS: &[Kind] = &[$(Kind {
             name: stringify!($kind),
             cases: $kind::cases,
-            expected: $kind::expected,
+            right: $kind::RIGHT,
             restart: $kind::RESTART,
         }),*];
     };
@@ -63,4 +71,5 @@ kinds! {
     tokens
     channels
     numbers
+    tables
 }

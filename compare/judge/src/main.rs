@@ -1,18 +1,21 @@
-//! Gives the same requests to the Rust original and to the port, and compares their answers line by line.
+//! Gives the same requests to the Rust original and to the port, and compares their answers line by line. Where the Rust has
+//! no such part, the port is held to the judge's own answers.
 
 mod compare;
 mod kinds;
 mod random;
 mod request;
+mod table;
 mod text;
+mod tree;
 
 use std::fs::File;
 use std::io::{BufRead, BufReader, BufWriter, Write};
 use std::process::ExitCode;
 
-use kinds::{Kind, KINDS};
+use kinds::{Kind, Right, KINDS};
 
-/// Exit status 0: as it should be. 1: differences that are not listed. 2: bad usage, or a program failed.
+/// Exit status 0: as it should be, or yes. 1: differences that are not listed, or no. 2: bad usage, or a program failed.
 fn main() -> ExitCode {
     let words: Vec<String> = std::env::args().skip(1).collect();
     let words: Vec<&str> = words.iter().map(String::as_str).collect();
@@ -33,10 +36,11 @@ fn run(words: &[&str]) -> Result<bool, String> {
             let (kind, n, seed) = asked(kind, n, seed)?;
             emit((kind.cases)(n, seed).map(String::into_bytes))
         }
+        [kind, "--needs-rust"] => Ok(matches!(known(kind)?.right, Right::Rust(_))),
         [kind, "--record", requests, answers] => record(known(kind)?, requests, answers),
         [kind, n, seed, "--rust", rust, "--port", port @ ..] if !port.is_empty() => {
             let (kind, n, seed) = asked(kind, n, seed)?;
-            compare::compare(kind, n, seed, &[rust], port)
+            compare::compare(kind, n, seed, rust, port)
         }
         _ => Err(usage()),
     }
@@ -49,6 +53,7 @@ fn usage() -> String {
          judge KIND N SEED --rust PROGRAM --port PROGRAM [ARG..]   compare N cases\n  \
          judge KIND N SEED --emit                                  print their request lines\n  \
          judge KIND --record REQUESTS ANSWERS                      print the answers to record, given the Rust's\n  \
+         judge KIND --needs-rust                                   whether the right answers come from the Rust\n  \
          judge --questions FILE                                    print the request lines of a file of questions\n\
          KIND is one of: {}; N is at least 1",
         names.join(" ")
@@ -78,7 +83,8 @@ fn questions(file: &str) -> Result<bool, String> {
     emit(requests.into_iter())
 }
 
-/// Prints the right answer to each line of a file of requests: the listed one, else the Rust's, which stand in a file too.
+/// Prints the right answer to each line of a file of requests: the judge's, or the listed one, else the Rust's. The Rust's
+/// answers stand in a file too.
 fn record(kind: &Kind, requests: &str, answers: &str) -> Result<bool, String> {
     let (requests, answers) = (lines(requests)?, lines(answers)?);
     if requests.len() != answers.len() {
@@ -89,9 +95,12 @@ fn record(kind: &Kind, requests: &str, answers: &str) -> Result<bool, String> {
             String::from_utf8_lossy(request),
             String::from_utf8_lossy(&rust),
         );
-        match (kind.expected)(&request, &text) {
-            Some((_, answer)) => answer.into_bytes(),
-            None => rust,
+        match kind.right {
+            Right::Judge(answer) => answer(&request).into_bytes(),
+            Right::Rust(expected) => match expected(&request, &text) {
+                Some((_, answer)) => answer.into_bytes(),
+                None => rust,
+            },
         }
     }))
 }

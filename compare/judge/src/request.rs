@@ -1,7 +1,10 @@
 //! Request lines, and the readable form of them that the question files are written in and differences are shown in:
 //! `"TRIG"` stands for the hex of the text between the quotes, `\xNN` for a byte, `\n` for a newline, `\"` and `\\` for
 //! these bytes, and a backslash at the end of the line for nothing (so that an empty line can be asked, and a space before
-//! it be seen).
+//! it be seen). `{bd 5 9 7 2}` stands for the word of a node: `b` a branch or `l` a leaf, `d` for default, then the other
+//! fields in their order, without the zeros at the end.
+
+use crate::table::{Node, Table};
 
 /// The request with this letter and these texts.
 pub fn request(letter: &str, texts: &[&[u8]]) -> String {
@@ -42,18 +45,77 @@ pub fn parts(request: &str) -> Option<(&str, Vec<Vec<u8>>)> {
     Some((letter, texts?))
 }
 
-/// A request in its readable form; every field behind the letter is hex.
+/// The field of a request that stands for a table: the words, a slash and the names.
+pub fn table_field(table: &Table) -> String {
+    let word = |node: &Node| node.word().to_string();
+    format!("{}/{}", joined(&table.nodes, word), hex(&table.names))
+}
+
+fn joined(nodes: &[Node], write: fn(&Node) -> String) -> String {
+    match nodes {
+        [] => "-".to_string(),
+        _ => nodes.iter().map(write).collect::<Vec<_>>().join(","),
+    }
+}
+
+/// The table that a field stands for.
+pub fn table(field: &str) -> Option<Table> {
+    let (words, names) = field.split_once('/')?;
+    let node = |word: &str| word.parse().ok().map(Node::of_word);
+    Some(Table {
+        nodes: match words {
+            "-" => vec![],
+            _ => words.split(',').map(node).collect::<Option<_>>()?,
+        },
+        names: unhex(names.as_bytes())?,
+    })
+}
+
+/// A request in its readable form; every field behind the letter is hex or a table.
 pub fn clear(request: &str) -> String {
     let mut fields = request.split(' ');
     let mut line = fields.next().unwrap_or_default().to_string();
     for field in fields {
         line.push(' ');
-        match unhex(field.as_bytes()) {
-            Some(text) => line.push_str(&quoted(&text)),
-            None => line.push_str(field),
+        match (unhex(field.as_bytes()), table(field)) {
+            (Some(text), _) => line.push_str(&quoted(&text)),
+            (None, Some(Table { nodes, names })) => {
+                line.push_str(&format!("{}/{}", joined(&nodes, braced), quoted(&names)))
+            }
+            (None, None) => line.push_str(field),
         }
     }
     line
+}
+
+fn braced(node: &Node) -> String {
+    let [branch, default, numbers @ ..] = node.fields();
+    let mut line = ["{l", "{b"][branch].to_string();
+    line.push_str(["", "d"][default]);
+    let zeros = numbers.iter().rev().take_while(|n| **n == 0).count();
+    for number in &numbers[..numbers.len() - zeros] {
+        line.push_str(&format!(" {number}"));
+    }
+    line.push('}');
+    line
+}
+
+/// The node that the text between the braces stands for.
+fn unbraced(text: &str) -> Option<Node> {
+    let mut parts = text.split(' ');
+    let (branch, default) = match parts.next()? {
+        "l" => (0, 0),
+        "ld" => (0, 1),
+        "b" => (1, 0),
+        "bd" => (1, 1),
+        _ => return None,
+    };
+    let mut fields = [branch, default, 0, 0, 0, 0, 0];
+    for (i, number) in parts.enumerate() {
+        *fields.get_mut(2 + i)? = number.parse().ok()?;
+    }
+    let node = Node::of_fields(fields);
+    (node.fields() == fields).then_some(node)
 }
 
 fn quoted(text: &[u8]) -> String {
@@ -83,6 +145,13 @@ pub fn read(line: &str) -> Option<Vec<u8>> {
                     Some(text) => request.extend(hex(&text).bytes()),
                     None => open = Some(vec![]),
                 }
+                continue;
+            }
+            b'{' if open.is_none() => {
+                let end = rest.iter().position(|b| *b == b'}')?;
+                let node = unbraced(std::str::from_utf8(&rest[..end]).ok()?)?;
+                request.extend(node.word().to_string().bytes());
+                rest = &rest[end + 1..];
                 continue;
             }
             b'\\' if rest.is_empty() => break,

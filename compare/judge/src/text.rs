@@ -208,6 +208,29 @@ pub fn comma_list(random: &mut Random, part: Make) -> Vec<u8> {
     text
 }
 
+/// A table name of that length, at least 1: perhaps a star, one or more capitals, small letters, digits that do not begin
+/// with 0.
+pub fn table_name(random: &mut Random, length: usize) -> Vec<u8> {
+    let star: &[u8] = if length > 1 && random.one_in(6) {
+        b"*"
+    } else {
+        b""
+    };
+    let mut tail = random.pick::<&[u8]>(&[b"", b"", b"", b"1", b"1", b"2", b"10", b"11", b"21"]);
+    if star.len() + tail.len() >= length {
+        tail = b"";
+    }
+    let letters = length - star.len() - tail.len();
+    let capitals = 1 + random.below(letters);
+    let mut name = star.to_vec();
+    for i in 0..letters {
+        let pool = if i < capitals { b"ABCZ" } else { b"abcz" };
+        name.push(random.pick(pool));
+    }
+    name.extend(tail);
+    name
+}
+
 /// A decimal number without a suffix.
 pub fn number(random: &mut Random) -> Vec<u8> {
     let mut text = random.pick::<&[u8]>(&[b"", b"", b"+", b"-"]).to_vec();

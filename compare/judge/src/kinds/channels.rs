@@ -1,18 +1,20 @@
 //! Channels: `C text`, answered by the specs, ranges and path names of the text as a channel list. Of a spec it says the
 //! start, length and dimension, the items, and the coordinates: `i`, `ii` and `iii` signed, `u`, `uu` and `uuu` unsigned.
 
-use super::{mixed, Cases, Listed};
+use super::{mixed, Cases, Listed, Right};
 use crate::random::Random;
 use crate::request::{parts, request};
 use crate::text::{
     comma_list, faulty, random_list, random_text, short_lists, string, value, zeros, ALL, LONGEST,
 };
 
+pub const RIGHT: Right = Right::Rust(expected);
+
 pub const RESTART: Option<usize> = None;
 
 /// The items and coordinates are read anew from each spec that the Rust names; all else is as it says. The heading is that
 /// of the first field that differs. Where one differs in another way than is listed, nothing is, and the run shows it.
-pub fn expected(request: &str, rust: &str) -> Option<Listed> {
+fn expected(request: &str, rust: &str) -> Option<Listed> {
     let (letter, texts) = parts(request)?;
     let ("C", [text]) = (letter, &texts[..]) else {
         return None;

@@ -1,18 +1,17 @@
 //! Names: `M name word`, answered by what mnemonic_match and mnemonic_compare say of the word for the name.
 
-use super::{mixed, Cases, Listed};
+use super::{mixed, Cases, Right};
 use crate::random::Random;
 use crate::request::request;
 use crate::text::{
-    self, pairs, random_text, recased, split_tail, ALL, BORDERS, LONGEST, LONGEST_ONE_IN,
+    self, pairs, random_text, recased, split_tail, table_name, ALL, BORDERS, LONGEST,
+    LONGEST_ONE_IN,
 };
 
-pub const RESTART: Option<usize> = None;
-
 /// Names have no listed difference.
-pub fn expected(_request: &str, _rust: &str) -> Option<Listed> {
-    None
-}
+pub const RIGHT: Right = Right::Rust(|_, _| None);
+
+pub const RESTART: Option<usize> = None;
 
 pub fn cases(n: usize, seed: u64) -> Cases {
     let line = |(name, word): Pair| request("M", &[&name, &word]);
@@ -82,28 +81,6 @@ fn spelled_pair(random: &mut Random, _i: usize) -> Pair {
 
 fn damaged(random: &mut Random, text: Vec<u8>) -> Vec<u8> {
     text::damaged(random, b"ABCabc0123*_", text)
-}
-
-/// A name of that length, at least 1: perhaps a star, one or more capitals, small letters, digits that do not begin with 0.
-fn table_name(random: &mut Random, length: usize) -> Vec<u8> {
-    let star: &[u8] = if length > 1 && random.one_in(6) {
-        b"*"
-    } else {
-        b""
-    };
-    let mut tail = random.pick::<&[u8]>(&[b"", b"", b"", b"1", b"1", b"2", b"10", b"11", b"21"]);
-    if star.len() + tail.len() >= length {
-        tail = b"";
-    }
-    let letters = length - star.len() - tail.len();
-    let capitals = 1 + random.below(letters);
-    let mut name = star.to_vec();
-    for i in 0..letters {
-        let pool = if i < capitals { b"ABCZ" } else { b"abcz" };
-        name.push(random.pick(pool));
-    }
-    name.extend(tail);
-    name
 }
 
 /// A word for a table name: the short or the long form in any case, with the number, or with a 1 added or dropped.

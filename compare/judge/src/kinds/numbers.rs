@@ -1,16 +1,14 @@
 //! Numbers: `N text`, answered by the numbers and ranges of the text as a numeric list.
 
-use super::{mixed, Cases, Listed};
+use super::{mixed, Cases, Right};
 use crate::random::Random;
 use crate::request::request;
 use crate::text::{comma_list, faulty, list, number, random_list, short_lists, ALL};
 
-pub const RESTART: Option<usize> = None;
-
 /// Numeric lists have no listed difference.
-pub fn expected(_request: &str, _rust: &str) -> Option<Listed> {
-    None
-}
+pub const RIGHT: Right = Right::Rust(|_, _| None);
+
+pub const RESTART: Option<usize> = None;
 
 pub fn cases(n: usize, seed: u64) -> Cases {
     let line = |text: Vec<u8>| request("N", &[&text]);

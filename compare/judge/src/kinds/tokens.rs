@@ -1,6 +1,6 @@
 //! Tokens: `T text` and `D text`, answered by the tokens of the text as a message and as data alone.
 
-use super::{mixed, Cases, Listed};
+use super::{mixed, Cases, Listed, Right};
 use crate::random::Random;
 use crate::request::{parts, request};
 use crate::text::{
@@ -8,11 +8,13 @@ use crate::text::{
     string, texts, value, zeros, Make, ALL,
 };
 
+pub const RIGHT: Right = Right::Rust(expected);
+
 pub const RESTART: Option<usize> = None;
 
 /// Where data have no digit behind `#H` or a sign in the length of a block, the port refuses them. The Rust says something
 /// else there or reads on; up to there the answers are the same.
-pub fn expected(request: &str, rust: &str) -> Option<Listed> {
+fn expected(request: &str, rust: &str) -> Option<Listed> {
     let (letter, texts) = parts(request)?;
     let (mut in_data, text) = match (letter, &texts[..]) {
         ("T", [text]) => (false, text),

@@ -263,7 +263,7 @@ fn put_view(out: &mut [u8], sink: Sink, word: &[u8], view: View) -> Sink {
 }
 
 // A word and the number of a refusal.
-fn put_code(out: &mut [u8], sink: Sink, word: &[u8], e: ErrorCode) -> Sink {
+pub(crate) fn put_code(out: &mut [u8], sink: Sink, word: &[u8], e: ErrorCode) -> Sink {
     put_signed(out, sink, word, e.get_code() as i64)
 }
 

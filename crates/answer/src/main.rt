@@ -1,5 +1,6 @@
 // Answers requests: a line of standard input each, and for each a line of standard output.
 mod lists;
+mod tables;
 
 ghost use Prim.Native.Nat.{_+_, _≤_};
 ghost use lib.ListN.{length};
@@ -9,6 +10,7 @@ use libc::STDOUT_FILENO;
 use lists::put_channels;
 use lists::put_numbers;
 use request::Text;
+use tables::check_table;
 use tokenizer::Answer;
 use tokenizer::Step;
 
@@ -28,13 +30,20 @@ struct State {
 fn main() {
     let mut input = [0u8; 65536];
     let mut line = [0u8; 600000];
+    let mut words = [0u64; 4097];
     let mut text = [0u8; 300000];
     let mut out = [0u8; 65536];
-    answer_all(&mut input, &mut line, &mut text, &mut out);
+    answer_all(&mut input, &mut line, &mut words, &mut text, &mut out);
 }
 
 // Nothing says that the input ends, so the turns are counted down, from a number that no run uses up.
-fn answer_all(input: &mut [u8], line: &mut [u8], text: &mut [u8], out: &mut [u8]) {
+fn answer_all(
+    input: &mut [u8],
+    line: &mut [u8],
+    words: &mut [u64],
+    text: &mut [u8],
+    out: &mut [u8],
+) {
     let mut turns = u64::MAX;
     let mut state = State {
         held: 0,
@@ -43,10 +52,10 @@ fn answer_all(input: &mut [u8], line: &mut [u8], text: &mut [u8], out: &mut [u8]
     while turns > 0 {
         let n = fill(input);
         if n == 0 {
-            finish(state, line, text, out);
+            finish(state, line, words, text, out);
             return;
         }
-        state = take_lines(&input[..n], state, line, text, out);
+        state = take_lines(&input[..n], state, line, words, text, out);
         if !state.sink.ok {
             return;
         }
@@ -67,6 +76,7 @@ fn take_lines(
     input: &[u8],
     state: State,
     line: &mut [u8],
+    words: &mut [u64],
     text: &mut [u8],
     out: &mut [u8],
 ) -> State {
@@ -79,7 +89,7 @@ fn take_lines(
         if end == input.len() {
             return State { held, sink };
         }
-        sink = answer_line(line, held, text, out, sink);
+        sink = answer_line(line, held, words, text, out, sink);
         if !sink.ok {
             return State { held: 0, sink };
         }
@@ -127,13 +137,13 @@ fn copy(from: &[u8], to: &mut [u8], at: usize)
 }
 
 // Answers the last line, where it lacks its newline, and writes out what waits.
-fn finish(state: State, line: &[u8], text: &mut [u8], out: &mut [u8]) {
+fn finish(state: State, line: &[u8], words: &mut [u64], text: &mut [u8], out: &mut [u8]) {
     let sink = state.sink;
     if state.held == 0 {
         flush(out, sink);
         return;
     }
-    let last = answer_line(line, state.held, text, out, sink);
+    let last = answer_line(line, state.held, words, text, out, sink);
     flush(out, last);
 }
 
@@ -149,15 +159,22 @@ fn flush(out: &[u8], sink: Sink) {
 }
 
 // A line that is too long is no request.
-fn answer_line(line: &[u8], held: usize, text: &mut [u8], out: &mut [u8], sink: Sink) -> Sink {
+fn answer_line(
+    line: &[u8],
+    held: usize,
+    words: &mut [u64],
+    text: &mut [u8],
+    out: &mut [u8],
+    sink: Sink,
+) -> Sink {
     if line.len() < held {
         return refuse(out, sink);
     }
-    respond(&line[..held], text, out, sink)
+    respond(&line[..held], words, text, out, sink)
 }
 
 // Answers a request line by its letter.
-fn respond(line: &[u8], text: &mut [u8], out: &mut [u8], sink: Sink) -> Sink {
+fn respond(line: &[u8], words: &mut [u64], text: &mut [u8], out: &mut [u8], sink: Sink) -> Sink {
     let letter = request::field(line, 0);
     let at = letter.start;
     if line.len() <= at {
@@ -168,6 +185,7 @@ fn respond(line: &[u8], text: &mut [u8], out: &mut [u8], sink: Sink) -> Sink {
     }
     match line[at] {
         b'M' => names(line, at + 1, text, out, sink),
+        b'F' => check_table(line, at + 1, words, text, out, sink),
         asked => respond_text(asked, line, at + 1, text, out, sink),
     }
 }

@@ -23,6 +23,9 @@ same-length-2 c = search laws
 same-length-3 : tie.Need-same-length-3
 same-length-3 c = search laws
 
+same-length-4 : tie.Need-same-length-4
+same-length-4 c = search laws
+
 returns-2 : tie.Need-returns-2
 returns-2 c = search laws
 
@@ -37,4 +40,5 @@ answer-line-spec =
     respond-requires
     same-length-2
     same-length-3
+    same-length-4
     returns-2)

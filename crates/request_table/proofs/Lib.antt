@@ -1,0 +1,6 @@
+-- Laws that belong to no one function.
+pub mod Finds
+pub mod Numbers
+pub mod Pieces
+pub mod Stores
+pub mod Claims

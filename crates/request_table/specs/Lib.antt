@@ -1,0 +1,4 @@
+pub mod Claims
+pub mod Number
+pub mod Slash
+pub mod Words

@@ -3,20 +3,20 @@ use Prim.Native.Nat.{ℕ, _+_, _≤_, _<_}
 use mathlib.Core.Path.{_≡_, sym, _∙_}
 use mathlib.Core.Logic.{_⊎_, inl, inr}
 use mathlib.Core.List.{List}
-use mathlib.Core.Bool.{Bool, true, false}
+use mathlib.Core.Bool.{Bool, true, false, not}
 use native.Mathlib.Decide.{ℕ-discrete}
 use native.Mathlib.Omega.{arith}
 use lib.Dec.{ltb}
 use lib.ListN.{length, getD}
 use borrow.Author.Needs.{needs}
-use borrow.Author.Tests.{ltb-true, lt-ltb}
+use borrow.Author.Tests.{not-true, not-false, ltb-true, lt-ltb}
 use Rattle.kind.proofs.Tests.{clash, less-or-not}
 use Rattle.util.specs.Decides.{Decides, holds, fails}
 use Rattle.util.proofs.Decided.{by-both, it-holds, it-fails}
 use Rattle.node.specs.Word.{isBranch, isDefault, firstChild, childCount}
 use Rattle.node.specs.Tree.{branch, default, first, count}
 use Rattle.table.specs.Fault.{TwoDefaults}
-use Rattle.table.specs.Parts.{TwoDefaultsIn, NextDefault, Blocks}
+use Rattle.table.specs.Parts.{TwoDefaultsIn, NextDefault, OneDefault, DefaultBranch, Blocks}
 use Rattle.table.proofs.Before.{Before, none-yet, one-more}
 use Rattle.table.proofs.Blocks.{in-table, block-fits′}
 use Rattle.table.proofs.Shape.{block-in}
@@ -24,26 +24,23 @@ use Rattle.table.proofs.Shape.{block-in}
 -- the next default node
 
 -- what the loop keeps: there is none before d
-pub record Passed (t : List ℕ) (at to d : ℕ) : Type 0 where
-  pub within : at ≤ to → d ≤ to
-  pub plain : Before (λ j. default t j ≡ false) at d
+abbrev pub Passed : List ℕ → ℕ → ℕ → Type 0
+Passed t at d = Before (λ j. default t j ≡ false) at d
 
 module _ (t : List ℕ) (at to : ℕ) where
-  pub next-begins′ : Passed t at to at
-  next-begins′ = record { within = λ h. h; plain = none-yet (λ j. default t j ≡ false) at }
+  pub next-begins′ : Passed t at at
+  next-begins′ = none-yet (λ j. default t j ≡ false) at
 
-  module _ (d : ℕ) (inv : Passed t at to d) where
+  module _ (d : ℕ) (inv : Passed t at d) where
     pub next-end′ : to ≤ d → NextDefault t at to d
-    next-end′ h =
-        record { from = inv .plain .low; within = inv .within; passed = inv .plain .all; found = λ l. absurd (omega arith) }
+    next-end′ h = record { from = inv .low; passed = inv .all; found = λ l. absurd (omega arith) }
 
     module _ (r : Bool) (e : r ≡ isDefault (getD t d 0)) where
       pub next-found′ : r ≡ true → NextDefault t at to d
-      next-found′ q = record { from = inv .plain .low; within = inv .within; passed = inv .plain .all; found = λ l. sym e ∙ q }
+      next-found′ q = record { from = inv .low; passed = inv .all; found = λ l. sym e ∙ q }
 
-      pub next-more′ : r ≡ false → d < to → (i : ℕ) → i ≡ d + 1 → Passed t at to i
-      next-more′ q l i h =
-          record { within = λ u. omega arith; plain = one-more (λ j. default t j ≡ false) at d (inv .plain) (sym e ∙ q) i h }
+      pub next-more′ : r ≡ false → (i : ℕ) → i ≡ d + 1 → Passed t at i
+      next-more′ q i h = one-more (λ j. default t j ≡ false) at d inv (sym e ∙ q) i h
 
 pub ruleset next-laws = (needs, next-begins′, next-end′, next-found′, next-more′)
 
@@ -153,3 +150,37 @@ module _ (t : List ℕ) where
         single-more′ w i h = one-more (One t) 0 b inv (λ u. rw (← p, ← s, ← v) (it-fails d w)) i h
 
 pub ruleset single-laws = (needs, block-fits′, block-inside′, single-begins′, single-end′, single-leaf′, two-found′, single-more′)
+
+-- the default branch of a block that has one default node at most
+
+module _ (t : List ℕ) (from to d : ℕ) (n : NextDefault t from to d) where
+  pub inner-none′ : to ≤ d → DefaultBranch t from to to
+  inner-none′ h =
+      record { found = λ l. absurd (omega arith); only = λ k l u b e. absurd (omega (arith, not-before t from to d n k l e)) }
+
+  module _ (ok : OneDefault t from to) (l : d < to) where
+    -- another default node would be a second one
+    same : (k : ℕ) → from ≤ k → k < to → default t k ≡ true → d ≡ k
+    same k h u e = go (less-or-not d k)
+      where
+        go : (d < k) ⊎ (k ≤ d) → d ≡ k
+        go (inl m) =
+            absurd
+            (ok .one (record { one = d; other = k; low = n .from; order = m; high = u; default-one = n .found l; default-other = e }))
+        go (inr m) = omega (arith, not-before t from to d n k h e)
+
+    module _ (g : Bool) (e : g ≡ isBranch (getD t d 0)) where
+      pub inner-leaf′ : not g ≡ true → DefaultBranch t from to to
+      inner-leaf′ w =
+          record {
+            found = λ h. absurd (omega arith);
+            only = λ k h u b f. clash b (rw (same k h u f) at (sym e ∙ not-true g w));
+          }
+
+      pub inner-found′ : not g ≡ false → DefaultBranch t from to d
+      inner-found′ w = record { found = λ h. (n .from, sym e ∙ not-false g w, n .found h); only = λ k h u b f. same k h u f }
+
+pub inner-inside′ : (t : List ℕ) (to d : ℕ) → d < to → to ≤ length t → d < length t
+inner-inside′ t to d h k = omega arith
+
+pub ruleset inner-laws = (needs, inner-inside′, inner-none′, inner-leaf′, inner-found′)

@@ -2,23 +2,20 @@
 use Prim.Native.Nat.{ℕ, _+_, _-_, _≤_, _<_}
 use mathlib.Core.Path.{_≡_, sym, _∙_}
 use mathlib.Core.List.{List}
-use mathlib.Core.Bool.{Bool, true, false, not}
-use native.Mathlib.Decide.{ℕ-discrete}
+use mathlib.Core.Bool.{Bool, true, false}
 use native.Mathlib.Omega.{arith}
 use lib.ListN.{length, getD}
 use borrow.Author.Needs.{needs}
-use borrow.Author.Tests.{not-true, not-false}
 use Rattle.kind.proofs.Tests.{clash}
 use Rattle.util.specs.Decides.{Decides, holds, fails}
 use Rattle.util.proofs.Decided.{it-holds, it-fails}
 use Rattle.name.specs.Name.{shares}
-use Rattle.node.specs.Word.{isBranch, firstChild, childCount, nameIn}
-use Rattle.node.specs.Tree.{branch, default, first, count, nameOf, Child, Near, child, under}
-use Rattle.table.specs.Parts.{NextDefault, SharesIn, ChildrenShare, BlocksShare, NearShares, SharesAt, children, below, Ready}
+use Rattle.node.specs.Word.{firstChild, childCount, nameIn}
+use Rattle.node.specs.Tree.{branch, first, count, nameOf, Child, Near, child, under}
+use Rattle.table.specs.Parts.{OneDefault, DefaultBranch, Below, SharesIn, ChildrenShare, BlocksShare, NearShares, SharesAt, children, below, Ready}
 use Rattle.table.proofs.Before.{Before, none-yet, one-more}
 use Rattle.table.proofs.Blocks.{in-table, block-fits′}
 use Rattle.table.proofs.Shape.{after, block-in, near-branch}
-use Rattle.table.proofs.Defaults.{not-before}
 
 -- one name against a block
 
@@ -97,29 +94,6 @@ pub ruleset strangers-laws = (needs, strangers-begin′, strangers-end′, stran
 
 -- the near nodes of a branch against a block
 
--- the default child of a branch that has no two of them is the next one in its block
-pub only-default : (t names : List ℕ) → Ready t names → (b : ℕ) → {d k : ℕ} → NextDefault t (first t b) (first t b + count t b) d → Child t b k → default t k ≡ true → d ≡ k
-only-default t names ok b {d} {k} n c e = go (ℕ-discrete d k)
-  where
-    before : d ≤ k
-    before = not-before t (first t b) (first t b + count t b) d n k (c .from) e
-
-    go : Dec (d ≡ k) → d ≡ k
-    go (yes q) = q
-    go (no q) =
-        absurd
-        (ok .no-two-defaults
-        (record {
-          holder = b;
-          one = d;
-          other = k;
-          child-one = record { holder = c .holder; from = n .from; below = omega (arith, before, c .below) };
-          child-other = c;
-          two = q;
-          default-one = n .found (omega (arith, before, c .below));
-          default-other = e;
-        }))
-
 module _ (t names : List ℕ) (ok : Ready t names) (b : ℕ) (m : branch t b ≡ true)
     (f c : ℕ) (p : f ≡ firstChild (getD t b 0)) (s : c ≡ childCount (getD t b 0)) (n : ℕ) (v : n ≡ f + c) where
   -- what is known of the block of a branch
@@ -133,15 +107,46 @@ module _ (t names : List ℕ) (ok : Ready t names) (b : ℕ) (m : branch t b ≡
   child-of : {k : ℕ} → f ≤ k → k < n → Child t b k
   child-of l u = record { holder = m; from = rw (← p) l; below = rw (← ends-at) u }
 
-  module _ (d : ℕ) (x : NextDefault t f n d) where
-    next-of : NextDefault t (first t b) (first t b + count t b) d
-    next-of = rw (← p, ← s, ← v) x
+  pub one-default′ : OneDefault t f n
+  one-default′ =
+      record {
+        one =
+            λ x. ok .no-two-defaults
+            (record {
+              holder = b;
+              one = x .one;
+              other = x .other;
+              child-one = child-of (x .low) (omega (arith, x .order, x .high));
+              child-other = child-of (omega (arith, x .low, x .order)) (x .high);
+              two = λ q. omega (arith, x .order);
+              default-one = x .default-one;
+              default-other = x .default-other;
+            });
+      }
+
+  -- what lies below the default branch
+
+  module _ (d : ℕ) (x : DefaultBranch t f n d) where
+    pub goes-down′ : d < n → branch t d ≡ true
+    goes-down′ l = x .found l .1
 
     pub deeper′ : d < n → (μ : ℕ) → length t - b ≡ μ → length t - d < μ
-    deeper′ l μ e = omega (arith, after t (ok .blocks .no-child-blocks) b m, p, x .from, reaches′)
+    deeper′ l μ e = omega (arith, after t (ok .blocks .no-child-blocks) b m, p, x .found l .0, reaches′)
 
-    pub inside′ : d < n → d < length t
-    inside′ l = omega (arith, reaches′)
+    module _ (first′ end : ℕ) where
+      inner-is : (y : Below t names first′ end b) → d ≡ y .inner
+      inner-is y =
+          x .only (y .inner) (omega (arith, p, y .inner-child .from)) (omega (arith, ends-at, y .inner-child .below)) (near-branch (y .shares .near)) (y .inner-default)
+
+      no-below : n ≤ d → Decides (Below t names first′ end b) false
+      no-below h = fails (λ y. omega (arith, inner-is y, ends-at, y .inner-child .below))
+
+      by-inner : d < n → (u : Bool) → Decides (NearShares t names first′ end d) u → Decides (Below t names first′ end b) u
+      by-inner l u (holds y) =
+          holds (record { inner = d; inner-child = child-of (x .found l .0) l; inner-default = x .found l .2; shares = y })
+      by-inner l u (fails y) = fails (λ z. y (rw (inner-is z) (z .shares)))
+
+  -- the near nodes of a branch
 
   module _ (first′ end : ℕ) (r : Bool) (o : Decides (BlocksShare t names first′ end f n) r) where
     pub near-block′ : r ≡ true → Decides (NearShares t names first′ end b) true
@@ -149,64 +154,47 @@ module _ (t names : List ℕ) (ok : Ready t names) (b : ℕ) (m : branch t b ≡
         let y = it-holds o q in
         holds (record { one = y .one; near = child (child-of (y .low) (y .high)); rest = y .rest })
 
-    module _ (q : r ≡ false) (d : ℕ) (x : NextDefault t f n d) where
-      -- it lies below the default branch
-      down : NearShares t names first′ end b → (k : ℕ) × (d ≡ k) × (Child t b k) × (NearShares t names first′ end k)
-      down y = go (y .near) (y .rest)
-        where
-          go : {k : ℕ} → Near t b k → SharesIn t names (nameOf t names k) first′ end → (k : ℕ) × (d ≡ k) × (Child t b k) × (NearShares t names first′ end k)
-          go {k} (child z) w =
-              absurd (it-fails o q (record { one = k; low = rw p (z .from); high = rw ends-at (z .below); rest = w }))
-          go {k} (under {d = j} z e a) w = (j, only-default t names ok b (next-of d x) z e, z, record { one = k; near = a; rest = w })
+    near-else : r ≡ false → {u : Bool} → Decides (Below t names first′ end b) u → Decides (NearShares t names first′ end b) u
+    near-else q (holds y) = holds (record { one = y .shares .one; near = under (y .inner-child) (y .inner-default) (y .shares .near); rest = y .shares .rest })
+    near-else q (fails y) = fails (λ z. go (z .near) (z .rest))
+      where
+        go : {k : ℕ} → Near t b k → SharesIn t names (nameOf t names k) first′ end → ⊥
+        go {k} (child z) w = it-fails o q (record { one = k; low = rw p (z .from); high = rw ends-at (z .below); rest = w })
+        go {k} (under {d = j} z e a) w = y (record { inner = j; inner-child = z; inner-default = e; shares = record { one = k; near = a; rest = w } })
 
+    module _ (q : r ≡ false) (d : ℕ) (x : DefaultBranch t f n d) where
       pub near-none′ : n ≤ d → Decides (NearShares t names first′ end b) false
-      near-none′ h = fails (λ y. let z = down y in omega (arith, z .1, z .2 .below, ends-at))
+      near-none′ h = near-else q (no-below d x first′ end h)
 
-      module _ (l : d < n) (g : Bool) (e : g ≡ isBranch (getD t d 0)) where
-        pub near-leaf′ : not g ≡ true → Decides (NearShares t names first′ end b) false
-        near-leaf′ w = fails (λ y. let z = down y in clash (near-branch (z .3 .near)) (rw (z .1) at (sym e ∙ not-true g w)))
+      pub near-down′ : d < n → (u : Bool) → Decides (NearShares t names first′ end d) u → Decides (NearShares t names first′ end b) u
+      near-down′ l u y = near-else q (by-inner d x first′ end l u y)
 
-        pub near-down′ : not g ≡ false → (u : Bool) → Decides (NearShares t names first′ end d) u → Decides (NearShares t names first′ end b) u
-        near-down′ w u (holds y) = holds (record { one = y .one; near = under (child-of (x .from) l) (x .found l) (y .near); rest = y .rest })
-        near-down′ w u (fails y) = fails (λ a. let z = down a in y (rw (z .1) (z .3)))
-
-  -- the children of a branch, and the near nodes of its default branch
-
-  block-of : (A : ℕ → ℕ → Type 0) → A f n → A (first t b) (first t b + count t b)
-  block-of A x = rw (← p, ← s, ← v) x
-
-  of-block : (A : ℕ → ℕ → Type 0) → A (first t b) (first t b + count t b) → A f n
-  of-block A x = rw (v, p, s) x
+  -- a branch itself
 
   module _ (r : Bool) (o : Decides (ChildrenShare t names f n) r) where
     pub at-children′ : r ≡ true → Decides (SharesAt t names b) true
-    at-children′ q = holds (children (block-of (ChildrenShare t names) (it-holds o q)))
+    at-children′ q = holds (children (rw (← p, ← s, ← v) (it-holds o q)))
 
-    module _ (q : r ≡ false) (d : ℕ) (x : NextDefault t f n d) where
-      lower : SharesAt t names b → (k : ℕ) × (d ≡ k) × (Child t b k) × (NearShares t names f n k)
-      lower (children y) = absurd (it-fails o q (of-block (ChildrenShare t names) y))
-      lower (below {d = k} c e y) = (k, only-default t names ok b (next-of d x) c e, c, of-block (λ i j. NearShares t names i j k) y)
+    at-else : r ≡ false → {u : Bool} → Decides (Below t names f n b) u → Decides (SharesAt t names b) u
+    at-else q (holds y) = holds (below (rw (← p, ← s, ← v) y))
+    at-else q (fails y) = fails go
+      where
+        go : SharesAt t names b → ⊥
+        go (children z) = it-fails o q (rw (v, p, s) z)
+        go (below z) = y (rw (v, p, s) z)
 
+    module _ (q : r ≡ false) (d : ℕ) (x : DefaultBranch t f n d) where
       pub at-none′ : n ≤ d → Decides (SharesAt t names b) false
-      at-none′ h = fails (λ y. let z = lower y in omega (arith, z .1, z .2 .below, ends-at))
+      at-none′ h = at-else q (no-below d x f n h)
 
-      module _ (l : d < n) (g : Bool) (e : g ≡ isBranch (getD t d 0)) where
-        pub at-leaf′ : not g ≡ true → Decides (SharesAt t names b) false
-        at-leaf′ w = fails (λ y. let z = lower y in clash (near-branch (z .3 .near)) (rw (z .1) at (sym e ∙ not-true g w)))
-
-        pub at-below′ : not g ≡ false → (u : Bool) → Decides (NearShares t names f n d) u → Decides (SharesAt t names b) u
-        at-below′ w u (holds y) =
-            holds (below (child-of (x .from) l) (x .found l) (block-of (λ i j. NearShares t names i j d) y))
-        at-below′ w u (fails y) = fails (λ a. let z = lower a in y (rw (z .1) (z .3)))
-
-pub goes-down′ : (t : List ℕ) (d : ℕ) (g : Bool) → g ≡ isBranch (getD t d 0) → not g ≡ false → branch t d ≡ true
-goes-down′ t d g e w = sym e ∙ not-false g w
+      pub at-below′ : d < n → (u : Bool) → Decides (NearShares t names f n d) u → Decides (SharesAt t names b) u
+      at-below′ l u y = at-else q (by-inner d x f n l u y)
 
 pub in-table′ : (t : List ℕ) (b : ℕ) → branch t b ≡ true → b < length t
 in-table′ = in-table
 
-pub ruleset down-laws = (needs, deeper′, goes-down′)
+pub ruleset down-laws = (needs, goes-down′, deeper′)
 
-pub ruleset near-laws = (needs, block-fits′, in-table′, reaches′, inside′, goes-down′, near-block′, near-none′, near-leaf′, near-down′)
+pub ruleset near-laws = (needs, block-fits′, in-table′, reaches′, one-default′, near-block′, near-none′, near-down′)
 
-pub ruleset at-laws = (needs, block-fits′, in-table′, reaches′, inside′, goes-down′, at-children′, at-none′, at-leaf′, at-below′)
+pub ruleset at-laws = (needs, block-fits′, in-table′, reaches′, one-default′, goes-down′, at-children′, at-none′, at-below′)

@@ -61,11 +61,17 @@ module _ (t names : List ℕ) (ok : Ready t names) where
   -- a child, and a near node of the default branch
   aunt : {b k d j : ℕ} → Child t b k → Child t b d → default t d ≡ true → Near t d j → Share (nameOf t names j) (nameOf t names k) → SharesAt t names b
   aunt {b} {k} {d} {j} c e m x s =
-      below e m
+      below
       (record {
-        one = j;
-        near = x;
-        rest = record { node = k; low = c .from; high = c .below; shared = tested j k (near-in t whole x .0) (near-in t whole x .1) (near-in t whole (child c) .0) (child-in t whole c) s };
+        inner = d;
+        inner-child = e;
+        inner-default = m;
+        shares =
+            record {
+              one = j;
+              near = x;
+              rest = record { node = k; low = c .from; high = c .below; shared = tested j k (near-in t whole x .0) (near-in t whole x .1) (near-in t whole (child c) .0) (child-in t whole c) s };
+            };
       })
 
   pub one-default : {b d e : ℕ} → Child t b d → Child t b e → default t d ≡ true → default t e ≡ true → d ≡ e
@@ -108,15 +114,16 @@ module _ (t names : List ℕ) (ok : Ready t names) where
         two = λ e. omega (arith, x .rest .low);
         shared = shared (x .one) (x .rest .node) (near-in t whole (child c) .0) (child-in t whole c) (near-in t whole (child d) .0) (child-in t whole d) (x .rest .shared);
       }
-  sound {b} m (below {d = d} e f x) =
+  sound {b} m (below z) =
+      let x = z .shares in
       let c : Child t b (x .rest .node) = record { holder = m; from = x .rest .low; below = x .rest .high } in
       record {
         holder = b;
         one = x .one;
         other = x .rest .node;
-        near-one = under e f (x .near);
+        near-one = under (z .inner-child) (z .inner-default) (x .near);
         near-other = child c;
-        two = λ q. elsewhere t whole c e (subst (λ (k : ℕ). Near t d k) q (x .near));
+        two = λ q. elsewhere t whole c (z .inner-child) (subst (λ (k : ℕ). Near t (z .inner) k) q (x .near));
         shared = shared (x .one) (x .rest .node) (near-in t whole (x .near) .0) (near-in t whole (x .near) .1) (near-in t whole (child c) .0) (child-in t whole c) (x .rest .shared);
       }
 

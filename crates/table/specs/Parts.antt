@@ -6,7 +6,7 @@ use mathlib.Core.Bool.{Bool, true, false, not, _&&_, _||_}
 use lib.Dec.{eqb}
 use Rattle.name.specs.Name.{shares}
 use Rattle.node.specs.Word.{isBranch, isDefault, nameLength, nameStart, childCount, spareBits}
-use Rattle.node.specs.Tree.{default, first, count, nameOf, Child, Near}
+use Rattle.node.specs.Tree.{branch, default, first, count, nameOf, Child, Near}
 use Rattle.table.specs.Fault.{ChildBlocks, NodeName, TwoDefaults}
 
 -- the word of a root: a branch, not default, its name fields 0
@@ -30,9 +30,17 @@ pub record TwoDefaultsIn (t : List ℕ) (from to : ℕ) : Type 0 where
 -- d is the first default node from a place on, or at the end where there is none before it
 pub record NextDefault (t : List ℕ) (at to d : ℕ) : Type 0 where
   pub from : at ≤ d
-  pub within : at ≤ to → d ≤ to
   pub passed : (j : ℕ) → at ≤ j → j < d → default t j ≡ false
   pub found : d < to → default t d ≡ true
+
+-- at most one default node among those from a place up to an end
+pub record OneDefault (t : List ℕ) (from to : ℕ) : Type 0 where
+  pub one : TwoDefaultsIn t from to → ⊥
+
+-- d is the default branch among the nodes from a place up to an end, or not before that end where there is none
+pub record DefaultBranch (t : List ℕ) (from to d : ℕ) : Type 0 where
+  pub found : d < to → (from ≤ d) × (branch t d ≡ true) × (default t d ≡ true)
+  pub only : (k : ℕ) → from ≤ k → k < to → branch t k ≡ true → default t k ≡ true → d ≡ k
 
 -- a node among those from a place up to an end shares a spelling with the name
 pub record SharesIn (t names name : List ℕ) (from to : ℕ) : Type 0 where
@@ -60,10 +68,17 @@ pub record NearShares (t names : List ℕ) (first end b : ℕ) : Type 0 where
   pub near : Near t b one
   pub rest : SharesIn t names (nameOf t names one) first end
 
+-- a near node of the default branch of b shares a spelling with a node of a block
+pub record Below (t names : List ℕ) (first end b : ℕ) : Type 0 where
+  pub inner : ℕ
+  pub inner-child : Child t b inner
+  pub inner-default : default t inner ≡ true
+  pub shares : NearShares t names first end inner
+
 -- two children of a branch share a spelling, or a child and a near node of the default branch
 pub data SharesAt (t names : List ℕ) (b : ℕ) : Type 0 where
   children : ChildrenShare t names (first t b) (first t b + count t b) → SharesAt t names b
-  below : {d : ℕ} → Child t b d → default t d ≡ true → NearShares t names (first t b) (first t b + count t b) d → SharesAt t names b
+  below : Below t names (first t b) (first t b + count t b) b → SharesAt t names b
 
 -- a table without fault 3
 pub record Blocks (t : List ℕ) : Type 0 where

@@ -6,7 +6,7 @@ ghost use lib.ListN.{length};
 ghost use Rattle.util.specs.Decides.{Decides};
 ghost use Rattle.node.specs.Tree.{branch, Child};
 ghost use Rattle.table.specs.Fault.{NodeCount, NodeFields, ChildBlocks, BadName, NodeName, TwoDefaults, SharedSpelling, Verdict};
-ghost use Rattle.table.specs.Parts.{isRoot, hasFields, TwoDefaultsIn, NextDefault, Blocks, Ready, SharesIn, ChildrenShare, BlocksShare, NearShares, SharesAt};
+ghost use Rattle.table.specs.Parts.{isRoot, hasFields, TwoDefaultsIn, NextDefault, OneDefault, DefaultBranch, Blocks, Ready, SharesIn, ChildrenShare, BlocksShare, NearShares, SharesAt};
 use error::ErrorCode;
 
 // A table with no fault is accepted; of any other the smallest fault is given.
@@ -264,14 +264,11 @@ fn shares_at(nodes: &[u64], names: &[u8], b: usize) -> bool
     if children_share(nodes, names, first, end) {
         return true;
     }
-    let child = next_default(nodes, first, end);
-    if end <= child {
+    let inner = default_branch(nodes, first, end);
+    if end <= inner {
         return false;
     }
-    if !node::is_branch(nodes[child]) {
-        return false;
-    }
-    near_shares(nodes, names, first, end, child)
+    near_shares(nodes, names, first, end, inner)
 }
 
 // Whether a near node of a branch shares a spelling with a node of a block.
@@ -285,14 +282,26 @@ fn near_shares(nodes: &[u64], names: &[u8], first: usize, end: usize, b: usize) 
     if blocks_share(nodes, names, first, end, from, to) {
         return true;
     }
-    let d = next_default(nodes, from, to);
-    if to <= d {
+    let inner = default_branch(nodes, from, to);
+    if to <= inner {
         return false;
+    }
+    near_shares(nodes, names, first, end, inner)
+}
+
+// The default branch in a block, or the end of the block where there is none.
+fn default_branch(nodes: &[u64], first: usize, end: usize) -> usize
+    requires { ⌜ (end ≤ length (now nodes)) × OneDefault (now nodes) first end ⌝ }
+    ensures { λ r. ⌜ DefaultBranch (now (nodes .entry)) first end r ⌝ }
+{
+    let d = next_default(nodes, first, end);
+    if end <= d {
+        return end;
     }
     if !node::is_branch(nodes[d]) {
-        return false;
+        return end;
     }
-    near_shares(nodes, names, first, end, d)
+    d
 }
 
 // Whether two nodes of a block share a spelling.

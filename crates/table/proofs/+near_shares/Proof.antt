@@ -8,9 +8,8 @@ use Rattle.table.proofs.near_shares.Kinds as near-shares-kinds
 use Rattle.table.proofs.+near_shares.Lts-near_shares as near-shares-lts
 use Rattle.node.proofs.child_count.Reads as child-count-reads
 use Rattle.node.proofs.first_child.Reads as first-child-reads
-use Rattle.node.proofs.is_branch.Reads as is-branch-reads
 use Rattle.table.proofs.blocks_share.Reads as blocks-share-reads
-use Rattle.table.proofs.next_default.Reads as next-default-reads
+use Rattle.table.proofs.default_branch.Reads as default-branch-reads
 use Rattle.table.proofs.+near_shares.{statement}
 use Rattle.table.proofs.+near_shares.Tie.{close}
 
@@ -26,7 +25,7 @@ near-shares-below t =
     and 2 near-shares-kinds.ps (falls 2 near-shares-kinds.ps _<_ μ-near-shares t) near-shares.Pre
 
 abbrev near-shares-R : ℕ → near-shares-lts.Claims
-near-shares-R t = (first-child-reads.Asked, first-child-reads.Learnt, child-count-reads.Asked, child-count-reads.Learnt, blocks-share-reads.Asked, blocks-share-reads.Learnt, next-default-reads.Asked, next-default-reads.Learnt, is-branch-reads.Asked, is-branch-reads.Learnt, near-shares-below t, near-shares.Post)
+near-shares-R t = (first-child-reads.Asked, first-child-reads.Learnt, child-count-reads.Asked, child-count-reads.Learnt, blocks-share-reads.Asked, blocks-share-reads.Learnt, default-branch-reads.Asked, default-branch-reads.Learnt, near-shares-below t, near-shares.Post)
 
 near-shares-mul-word : (t : ℕ) → near-shares-lts.Need-mul-word (near-shares-R t) (near-shares-at t) near-shares.Post
 near-shares-mul-word t c = search near-laws
@@ -49,30 +48,17 @@ near-shares-blocks-share-requires t c κs = search near-laws
 near-shares-returns : (t : ℕ) → near-shares-lts.Need-returns (near-shares-R t) (near-shares-at t) near-shares.Post
 near-shares-returns t c = search near-laws
 
-near-shares-next-default-requires : (t : ℕ) → near-shares-lts.Need-next-default-requires (near-shares-R t) (near-shares-at t) near-shares.Post
-near-shares-next-default-requires t c κs = search near-laws
+near-shares-default-branch-requires : (t : ℕ) → near-shares-lts.Need-default-branch-requires (near-shares-R t) (near-shares-at t) near-shares.Post
+near-shares-default-branch-requires t c κs = search near-laws
 
 near-shares-returns-2 : (t : ℕ) → near-shares-lts.Need-returns-2 (near-shares-R t) (near-shares-at t) near-shares.Post
 near-shares-returns-2 t c = search near-laws
 
-near-shares-mul-is-branch : (t : ℕ) → near-shares-lts.Need-mul-is-branch (near-shares-R t) (near-shares-at t) near-shares.Post
-near-shares-mul-is-branch t c = search near-laws
-
-near-shares-shared-slice-read-is-branch :
-    (t : ℕ) → near-shares-lts.Need-shared-slice-read-is-branch (near-shares-R t) (near-shares-at t) near-shares.Post
-near-shares-shared-slice-read-is-branch t c = search near-laws
-
-near-shares-is-branch-requires : (t : ℕ) → near-shares-lts.Need-is-branch-requires (near-shares-R t) (near-shares-at t) near-shares.Post
-near-shares-is-branch-requires t c κs = search near-laws
-
-near-shares-returns-3 : (t : ℕ) → near-shares-lts.Need-returns-3 (near-shares-R t) (near-shares-at t) near-shares.Post
-near-shares-returns-3 t c = search near-laws
-
 near-shares-near-shares-requires : (t : ℕ) → near-shares-lts.Need-near-shares-requires (near-shares-R t) (near-shares-at t) near-shares.Post
 near-shares-near-shares-requires t c κs = (search down-laws, search down-laws)
 
-near-shares-returns-4 : (t : ℕ) → near-shares-lts.Need-returns-4 (near-shares-R t) (near-shares-at t) near-shares.Post
-near-shares-returns-4 t c = search near-laws
+near-shares-returns-3 : (t : ℕ) → near-shares-lts.Need-returns-3 (near-shares-R t) (near-shares-at t) near-shares.Post
+near-shares-returns-3 t c = search near-laws
 
 pub +near-shares-spec : {M : Type 1} → statement M
 +near-shares-spec = close μ-near-shares λ t. near-shares-lts.spec (near-shares-R t)
@@ -85,11 +71,7 @@ pub +near-shares-spec : {M : Type 1} → statement M
     (near-shares-add-to t)
     (near-shares-blocks-share-requires t)
     (near-shares-returns t)
-    (near-shares-next-default-requires t)
+    (near-shares-default-branch-requires t)
     (near-shares-returns-2 t)
-    (near-shares-mul-is-branch t)
-    (near-shares-shared-slice-read-is-branch t)
-    (near-shares-is-branch-requires t)
-    (near-shares-returns-3 t)
     (near-shares-near-shares-requires t)
-    (near-shares-returns-4 t)
+    (near-shares-returns-3 t)

@@ -4,7 +4,7 @@ use Rattle.table.proofs.next_default.Statement.{statement}
 use Rattle.table.proofs.next_default.Tie as tie
 
 abbrev Inv-loop : tie.InvT-loop
-Inv-loop nodes at end d₀ d = Passed nodes at end d
+Inv-loop nodes at end d₀ d = Passed nodes at d
 
 abbrev μ-loop : tie.MeasureT-loop
 μ-loop nodes at end d₀ d = end - d

@@ -23,29 +23,17 @@ children-share-requires c κs = search at-laws
 returns : tie.Need-returns
 returns c = search at-laws
 
-next-default-requires : tie.Need-next-default-requires
-next-default-requires c κs = search at-laws
+default-branch-requires : tie.Need-default-branch-requires
+default-branch-requires c κs = search at-laws
 
 returns-2 : tie.Need-returns-2
 returns-2 c = search at-laws
 
-mul-is-branch : tie.Need-mul-is-branch
-mul-is-branch c = search at-laws
-
-shared-slice-read-is-branch : tie.Need-shared-slice-read-is-branch
-shared-slice-read-is-branch c = search at-laws
-
-is-branch-requires : tie.Need-is-branch-requires
-is-branch-requires c κs = search at-laws
-
-returns-3 : tie.Need-returns-3
-returns-3 c = search at-laws
-
 near-shares-requires : tie.Need-near-shares-requires
 near-shares-requires c κs = search at-laws
 
-returns-4 : tie.Need-returns-4
-returns-4 c = search at-laws
+returns-3 : tie.Need-returns-3
+returns-3 c = search at-laws
 
 pub shares-at-spec : {M : Type 1} → statement M
 shares-at-spec =
@@ -58,11 +46,7 @@ shares-at-spec =
     add-end
     children-share-requires
     returns
-    next-default-requires
+    default-branch-requires
     returns-2
-    mul-is-branch
-    shared-slice-read-is-branch
-    is-branch-requires
-    returns-3
     near-shares-requires
-    returns-4)
+    returns-3)

@@ -39,7 +39,7 @@ notSmall b = not (isSmall b)
 unfoldable pub mayLeaveOut : ℕ → Bool
 mayLeaveOut b = not (isCapital b || isDigit b)
 
--- In either case, the word is the whole mnemonic, or a front part of it: one that has no small letter, with no capital and no
+-- Whatever the case of their letters, the word is the whole mnemonic, or a front part of it: one that has no small letter, with no capital and no
 -- digit anywhere behind it.
 unfoldable pub compares : List ℕ → List ℕ → Bool
 compares m s =
@@ -61,7 +61,7 @@ numericSuffixStart s = cond (every isDigit s) (length s) (lastEnd s)
 abbrev pub stem : List ℕ → List ℕ
 stem s = take (numericSuffixStart s) s
 
--- the digits that end a text
+-- the numeric suffix of a text, empty where it has none
 abbrev pub numericSuffix : List ℕ → List ℕ
 numericSuffix s = drop (numericSuffixStart s) s
 

@@ -1,4 +1,4 @@
--- Which texts are table names, found by runs; and names with a spelling in common. What a name is, and which words spell one, is said in
+-- How the runs of a table name go on, and names with a spelling in common. What a name is, and which words spell one, is said in
 -- Spelling of the crate mnemonic.
 use Prim.Native.Nat.{ℕ}
 use Prim.Native.Char.{code}
@@ -12,7 +12,7 @@ use Rattle.util.specs.Run.{run, runEnd, standsAt}
 use Rattle.mnemonic.specs.Mnemonic.{notSmall, compares, stem, numericSuffix, sameNumericSuffix}
 use Rattle.mnemonic.specs.Spelling.{spells}
 
--- small letters, digits that do not start with 0, and the end of the text stand behind some capitals
+-- behind the letters stand digits that do not start with 0, or none, up to the end of the text
 unfoldable pub endsFrom : List ℕ → ℕ → Bool
 endsFrom s letters = not (standsAt (code "0") s letters) && eqb (runEnd isDigit s letters) (length s)
 
@@ -28,7 +28,8 @@ startsApart a b = isCapital (getD a 0 0) && (isCapital (getD b 0 0) && not (eqb 
 unfoldable pub formOf : List ℕ → List ℕ → Bool
 formOf m x = compares m x || compares m (take (run notSmall x) x)
 
--- SCPI-99 6.2.1: the long or the short form of the name b is a form of the name a too, and they have the same numeric suffix
+-- SCPI-99 6.2.1: the long or the short form of the name b is a form of the name a too, and they have the same numeric suffix. For
+-- names, though not for all texts, this is `Share`.
 unfoldable pub shares : List ℕ → List ℕ → Bool
 shares a b = formOf (stem a) (stem b) && sameNumericSuffix (numericSuffix a) (numericSuffix b)
 

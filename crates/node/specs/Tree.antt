@@ -23,13 +23,13 @@ count t k = childCount (getD t k 0)
 abbrev pub nameOf : List ℕ → List ℕ → ℕ → List ℕ
 nameOf t names k = nameIn names (getD t k 0)
 
--- the node k is a child of the branch b: it lies in the block of b
+-- the node k is a child of the branch b: it lies in the block of b, which in an accepted table lies in the table
 pub record Child (t : List ℕ) (b k : ℕ) : Type 0 where
   pub holder : branch t b ≡ true
   pub from : first t b ≤ k
   pub below : k < first t b + count t b
 
--- the near nodes of a branch: its children, and the near nodes of its default branch
+-- the near nodes of a branch: its children, and the near nodes of a default branch among these
 pub data Near (t : List ℕ) : ℕ → ℕ → Type 0 where
   child : {b k : ℕ} → Child t b k → Near t b k
   under : {b d k : ℕ} → Child t b d → default t d ≡ true → Near t d k → Near t b k

@@ -1,5 +1,5 @@
--- The node word: 64 bits, most significant first: branch 1, default 1, name length 4, name start 16, first child or command 16,
--- child count 16, spare 10.
+-- The node word has 64 bits. Its fields and their widths, most significant first: branch 1, default 1, name length 4, name start 16,
+-- first child or command 16, child count 16, spare 10.
 use Prim.Native.Nat.{ℕ, _+_, _/_, _%_, _^_}
 use mathlib.Core.List.{List, []}
 use mathlib.Core.Bool.{Bool, cond}

@@ -2,7 +2,7 @@
 use Prim.Native.Nat.{ℕ, _≤_, _<_}
 use mathlib.Core.Path.{_≡_, refl, sym, ap, _∙_}
 use mathlib.Core.Logic.{_⊎_, inl, inr}
-use mathlib.Core.List.{List}
+use mathlib.Core.List.{List, [], _∷_}
 use mathlib.Core.Bool.{Bool, true, false, cond}
 use native.Mathlib.Decide.{ℕ-discrete}
 use native.Mathlib.Omega.{arith}
@@ -11,15 +11,17 @@ use lib.IntN.{pos}
 use Rattle.error.specs.Code.{codeOf}
 use Rattle.error.specs.declared.ErrorCode.{ErrorCode}
 use Rattle.error.specs.declared.ErrorCode.the-variants as code
-use Rattle.kind.proofs.Tests.{less-or-not}
+use Rattle.kind.proofs.Tests.{clash, less-or-not}
 use Rattle.mnemonic.specs.Spelling.{spells}
+use Rattle.node.specs.Word.{isBranch, isDefault, nameLength, nameStart, firstChild, childCount, spareBits}
 use Rattle.node.specs.Tree.{branch, nameOf, Near}
-use Rattle.table.specs.Fault.{root-no-branch, Fault, node-count, node-fields, child-blocks, node-name, two-defaults, shared-spelling, Accepted, Verdict, accepts, refuses}
+use Rattle.table.specs.Fault.{NodeCount, no-node, too-many, NodeFields, spare-bits, root-no-branch, root-default, root-name-length, root-name-start, leaf-children, behind, ChildBlocks, not-behind, not-to-end, too-early, Fault, node-count, node-fields, child-blocks, node-name, two-defaults, shared-spelling, Accepted, Verdict, accepts, refuses}
 use Rattle.table.specs.Parts.{Ready}
-use Rattle.table.specs.Claims.{Tree, Claims}
+use Rattle.table.specs.Claims.{Tree, rootAlone, Claims}
 use Rattle.table.specs.declared.Checked.{Checked}
 use Rattle.table.specs.declared.Checked.the-variants as checked
-use Rattle.table.proofs.Shape.{holder-of, one-holder, child-after, child-in}
+use Rattle.table.proofs.Blocks.{in-table}
+use Rattle.table.proofs.Shape.{holder-of, one-holder, child-after, child-in, near-in}
 use Rattle.table.proofs.Theorem.{name-of, one-default}
 
 module _ (t names : List ℕ) (ok : Accepted t names) where
@@ -95,5 +97,43 @@ module _ (t names : List ℕ) where
       go (inr l) (inl k) = absurd (g h m k u)
       go (inr l) (inr k) = omega arith
 
+-- a root alone
+
+abbrev alone : List ℕ
+alone = rootAlone ∷ []
+
+only-root : (b : ℕ) → b < 1 → b ≡ 0
+only-root b h = omega arith
+
+no-blocks : ChildBlocks alone → ⊥
+unfolding behind isBranch firstChild childCount
+no-blocks (not-behind b m n) = let e = only-root b (in-table alone b m) in n (rw e)
+no-blocks (not-to-end n) = n refl
+no-blocks (too-early b m l) =
+    let e = only-root b (in-table alone b m) in
+    let k : 1 ≤ 0 = rw e at l in
+    omega arith
+
+no-count : NodeCount alone → ⊥
+no-count (no-node h) = omega (arith, h)
+no-count (too-many h) = omega arith
+
+no-fields : NodeFields alone → ⊥
+unfolding isBranch isDefault nameLength nameStart childCount spareBits
+no-fields (spare-bits k l h) = let e = only-root k l in h (rw e)
+no-fields (root-no-branch h) = clash refl h
+no-fields (root-default h) = clash h refl
+no-fields (root-name-length h) = h refl
+no-fields (root-name-start h) = h refl
+no-fields (leaf-children k l m h) = let e = only-root k l in clash refl (rw e at m)
+
+none : (e : ErrorCode) (n : ℕ) → Fault alone [] e n → ⊥
+none e n (node-count x) = no-count x
+none e n (node-fields x) = no-fields x
+none e n (child-blocks x) = no-blocks x
+none e n (node-name x) = omega (arith, x .not-root, x .inside)
+none e n (two-defaults x) = omega (arith, child-after alone no-blocks (x .child-one), child-in alone no-blocks (x .child-one))
+none e n (shared-spelling x) = let z = near-in alone no-blocks (x .near-one) in omega (arith, z .0, z .1)
+
 pub claims : Claims
-claims = record { accepted = tree; one-verdict = one-verdict; numbers = numbers }
+claims = record { accepted = tree; root-alone = record { faultless = none }; one-verdict = one-verdict; numbers = numbers }

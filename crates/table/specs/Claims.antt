@@ -1,7 +1,7 @@
 -- What is proved of these definitions, besides the promise of the check. The proofs are in proofs/Claims.
-use Prim.Native.Nat.{ℕ, _<_}
+use Prim.Native.Nat.{ℕ, _+_, _^_, _<_}
 use mathlib.Core.Path.{_≡_}
-use mathlib.Core.List.{List}
+use mathlib.Core.List.{List, [], _∷_}
 use mathlib.Core.Bool.{true}
 use lib.IntN.{pos}
 use lib.ListN.{length}
@@ -29,9 +29,15 @@ pub record Tree (t names : List ℕ) : Type 0 where
   -- no word spells two near nodes of a branch
   pub apart : {b k j : ℕ} → Near t b k → Near t b j → (w : List ℕ) → spells (nameOf t names k) w ≡ true → spells (nameOf t names j) w ≡ true → k ≡ j
 
+-- the word of a root with no children: a branch, its block at 1
+abbrev pub rootAlone : ℕ
+rootAlone = 2 ^ 63 + 2 ^ 26
+
 pub record Claims : Type 0 where
-  -- so is every accepted table
+  -- every accepted table is such a tree
   pub accepted : (t names : List ℕ) → Accepted t names → Tree t names
+  -- a root alone is accepted
+  pub root-alone : Accepted (rootAlone ∷ []) []
   -- the check can say one thing only of a table
   pub one-verdict : (t names : List ℕ) (c d : Checked) → Verdict t names c → Verdict t names d → c ≡ d
   -- a fault is reported by its number

@@ -6,7 +6,7 @@ use mathlib.Core.List.{List}
 use mathlib.Core.Bool.{true, false, cond}
 use lib.ListN.{length, getD}
 use Rattle.error.specs.declared.ErrorCode.{ErrorCode}
-use Rattle.error.specs.declared.ErrorCode.the-variants as code
+use Rattle.error.specs.declared.ErrorCode.the-variants as refusal
 use Rattle.util.specs.Run.{standsAt}
 use Rattle.mnemonic.specs.Spelling.{Name}
 use Rattle.name.specs.Name.{Share}
@@ -29,7 +29,7 @@ pub data NodeFields (t : List ℕ) : Type 0 where
   root-name-start : (nameStart (getD t 0 0) ≡ 0 → ⊥) → NodeFields t
   leaf-children : (k : ℕ) → k < length t → branch t k ≡ false → (count t k ≡ 0 → ⊥) → NodeFields t
 
--- the place behind the child blocks of the branches before node k, where each follows the one before it, the first at 1
+-- where the child blocks of the branches before node k end, if the first begins at 1 and each next one where the last ended
 unfoldable pub behind : List ℕ → ℕ → ℕ
 behind t zero = 1
 behind t (suc k) = cond (branch t k) (behind t k + count t k) (behind t k)
@@ -41,7 +41,8 @@ pub data ChildBlocks (t : List ℕ) : Type 0 where
   not-to-end : (behind t (length t) ≡ length t → ⊥) → ChildBlocks t
   too-early : (b : ℕ) → branch t b ≡ true → first t b ≤ b → ChildBlocks t
 
--- a name outside the text, not of 1 to 12 bytes, or no name; or with a star, but not for a leaf under the root that is not default
+-- A name outside the text, not of 1 to 12 bytes, or not of the form of a name. A star is only for a leaf that is a child of the root
+-- and not default.
 pub data BadName (t names : List ℕ) (k : ℕ) : Type 0 where
   outside : length names < nameStart (getD t k 0) + nameLength (getD t k 0) → BadName t names k
   no-byte : nameLength (getD t k 0) ≡ 0 → BadName t names k
@@ -81,12 +82,12 @@ pub record SharedSpelling (t names : List ℕ) : Type 0 where
 
 -- the table has a fault, with the refusal and the number that it is reported by
 pub data Fault (t names : List ℕ) : ErrorCode → ℕ → Type 0 where
-  node-count : NodeCount t → Fault t names code.NodeCount 1
-  node-fields : NodeFields t → Fault t names code.NodeFields 2
-  child-blocks : ChildBlocks t → Fault t names code.ChildBlocks 3
-  node-name : NodeName t names → Fault t names code.NodeName 4
-  two-defaults : TwoDefaults t → Fault t names code.TwoDefaults 5
-  shared-spelling : SharedSpelling t names → Fault t names code.SharedSpelling 6
+  node-count : NodeCount t → Fault t names refusal.NodeCount 1
+  node-fields : NodeFields t → Fault t names refusal.NodeFields 2
+  child-blocks : ChildBlocks t → Fault t names refusal.ChildBlocks 3
+  node-name : NodeName t names → Fault t names refusal.NodeName 4
+  two-defaults : TwoDefaults t → Fault t names refusal.TwoDefaults 5
+  shared-spelling : SharedSpelling t names → Fault t names refusal.SharedSpelling 6
 
 -- a table with none of these faults is accepted
 pub record Accepted (t names : List ℕ) : Type 0 where

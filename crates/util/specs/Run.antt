@@ -11,7 +11,7 @@ unfoldable pub run : (ℕ → Bool) → List ℕ → ℕ
 run p [] = 0
 run p (b ∷ s) = cond (p b) (suc (run p s)) 0
 
--- the place where a run of the class p that begins at a place ends: the place itself where there is none, at or past the end too
+-- the place where a run of the class p that begins at a place ends; where there is none, as at the end of the text, that place itself
 unfoldable pub runEnd : (ℕ → Bool) → List ℕ → ℕ → ℕ
 runEnd p s at = at + run p (drop at s)
 

@@ -1,6 +1,7 @@
 -- The claims.
+use Rattle.util.proofs.Decided.{one-answer}
 use Rattle.name.specs.Claims.{Claims}
 use Rattle.name.proofs.Shares.{sharing}
 
 pub claims : Claims
-claims = record { sharing = sharing }
+claims = record { one-answer = λ s a b. one-answer; sharing = sharing }

@@ -5,9 +5,10 @@ use mathlib.Core.List.{List}
 use mathlib.Core.Bool.{Bool, true, false, not, _&&_, and-false, and-true}
 use native.Mathlib.Omega.{arith}
 use lib.Dec.{eqb}
-use lib.ListN.{length, getD, take, drop, List·getD-eq-default}
+use lib.ListN.{length, getD, take, drop}
+use lib.Seq.{take-all}
 use borrow.Author.Needs.{needs}
-use borrow.Author.Tests.{not-true, not-false, lt-ltb, le-ltb, eq-eqb, ne-eqb}
+use borrow.Author.Tests.{not-true, not-false, lt-ltb, le-ltb}
 use Rattle.kind.specs.Class.{isCapital, isSmall, isDigit}
 use Rattle.util.specs.Run.{run, runEnd, standsAt}
 use Rattle.util.proofs.Every.{run-within}
@@ -15,40 +16,7 @@ use Rattle.util.proofs.Runs.{run-past, run-stop, run-more}
 use Rattle.mnemonic.specs.Mnemonic.{notSmall, compares, numericSuffixStart, sameNumericSuffix}
 use Rattle.mnemonic.proofs.Compare.{part-long′, to-end}
 use Rattle.mnemonic.proofs.Split.{starts-within′}
-use Rattle.name.specs.Name.{endsFrom, namesFrom, startsApart, formOf, shares}
-use Rattle.name.proofs.Heads.{apart-shares}
-
--- the first letters
-
-no-first : (s : List ℕ) → length s ≡ 0 → isCapital (getD s 0 0) ≡ false
-unfolding isCapital
-no-first s h = let z : getD s 0 0 ≡ 0 = List·getD-eq-default s 0 (omega arith) in rw z
-
-module _ (a b : List ℕ) where
-  pub none-first′ : length a ≡ 0 → false ≡ startsApart a b
-  unfolding startsApart
-  none-first′ h = rw (no-first a h)
-
-  pub none-second′ : length b ≡ 0 → false ≡ startsApart a b
-  unfolding startsApart
-  none-second′ h = rw (no-first b h) (sym (and-false (isCapital (getD a 0 0))))
-
-  pub same-letter′ : getD a 0 0 ≡ getD b 0 0 → false ≡ startsApart a b
-  unfolding startsApart
-  same-letter′ h =
-      rw (eq-eqb (getD a 0 0) (getD b 0 0) h, and-false (isCapital (getD b 0 0))) (sym (and-false (isCapital (getD a 0 0))))
-
-  module _ (r : Bool) (e : r ≡ isCapital (getD a 0 0)) where
-    pub no-capital-first′ : not r ≡ true → false ≡ startsApart a b
-    unfolding startsApart
-    no-capital-first′ q = rw (← e, not-true r q)
-
-    pub capital-first′ : not r ≡ false → (getD a 0 0 ≡ getD b 0 0 → ⊥) → (c : Bool) → c ≡ isCapital (getD b 0 0) → c ≡ startsApart a b
-    unfolding startsApart
-    capital-first′ q h c k =
-        rw (← e, not-false r q, ne-eqb (getD a 0 0) (getD b 0 0) h, ← k) (sym (and-true c))
-
-pub ruleset apart-laws = (needs, none-first′, none-second′, same-letter′, no-capital-first′, capital-first′)
+use Rattle.name.specs.Name.{endsFrom, namesFrom, formOf, shares}
 
 -- the short form
 
@@ -79,6 +47,12 @@ module _ (m x : List ℕ) (r : Bool) (e : r ≡ compares m x) where
   unfolding formOf
   form-long′ q = rw (← e, q)
 
+  pub form-whole′ : r ≡ false → (c : ℕ) → c ≡ run notSmall x → c ≡ length x → false ≡ formOf m x
+  unfolding formOf
+  form-whole′ q c k h =
+      let w : take (run notSmall x) x ≡ x = take-all (run notSmall x) x (omega arith) in
+      rw (w, ← e, q)
+
   pub form-short′ : r ≡ false → (c : ℕ) → c ≡ run notSmall x → (o : Bool) → o ≡ compares m (take c x) → o ≡ formOf m x
   unfolding formOf
   form-short′ q c k o f = rw (← e, q, ← k, f)
@@ -86,14 +60,11 @@ module _ (m x : List ℕ) (r : Bool) (e : r ≡ compares m x) where
 pub form-within′ : (x : List ℕ) (c : ℕ) → c ≡ run notSmall x → c ≤ length x
 form-within′ x c e = rw e (run-within notSmall x)
 
-pub ruleset form-laws = (needs, part-long′, form-long′, form-short′, form-within′)
+pub ruleset form-laws = (needs, part-long′, form-long′, form-whole′, form-short′, form-within′)
 
 -- the spelling of two names
 
 module _ (a b : List ℕ) where
-  pub apart′ : (r : Bool) → r ≡ startsApart a b → r ≡ true → false ≡ shares a b
-  apart′ r e q = sym (apart-shares a b (sym e ∙ q))
-
   module _ (m n : ℕ) (pm : m ≡ numericSuffixStart a) (pn : n ≡ numericSuffixStart b)
       (o : Bool) (e : o ≡ sameNumericSuffix (take (length a - m) (drop m a)) (take (length b - n) (drop n b))) where
     parted : shares a b ≡ (formOf (take m a) (take n b) && o)
@@ -106,7 +77,7 @@ module _ (a b : List ℕ) where
     pub same-suffix′ : not o ≡ false → (c : Bool) → c ≡ formOf (take m a) (take n b) → c ≡ shares a b
     same-suffix′ q c k = k ∙ sym (parted ∙ rw (not-false o q) (and-true (formOf (take m a) (take n b))))
 
-pub ruleset share-laws = (needs, part-long′, starts-within′, apart′, other-suffix′, same-suffix′)
+pub ruleset share-laws = (needs, part-long′, starts-within′, other-suffix′, same-suffix′)
 
 -- a name from a place on
 

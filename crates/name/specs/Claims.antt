@@ -2,7 +2,8 @@
 use Prim.Native.Nat.{ℕ}
 use mathlib.Core.Path.{_≡_}
 use mathlib.Core.List.{List}
-use mathlib.Core.Bool.{Bool}
+use mathlib.Core.Bool.{Bool, false}
+use lib.ListN.{getD}
 use Rattle.util.specs.Decides.{Decides}
 use Rattle.mnemonic.specs.Spelling.{Name}
 use Rattle.name.specs.Name.{shares, Share}
@@ -12,3 +13,5 @@ pub record Claims : Type 0 where
   pub one-answer : (s : List ℕ) (a b : Bool) → Decides (Name s) a → Decides (Name s) b → a ≡ b
   -- two names share a spelling exactly where the test says so
   pub sharing : (a b : List ℕ) → Name a → Name b → Decides (Share a b) (shares a b)
+  -- two names that begin with different characters share none
+  pub initials : (a b : List ℕ) → Name a → Name b → (getD a 0 0 ≡ getD b 0 0 → ⊥) → shares a b ≡ false

@@ -6,7 +6,7 @@ use mathlib.Core.Path.{_≡_}
 use mathlib.Core.List.{List}
 use mathlib.Core.Bool.{Bool, true, not, _&&_, _||_}
 use lib.Dec.{eqb, ltb}
-use lib.ListN.{length, getD, take}
+use lib.ListN.{length, take}
 use Rattle.kind.specs.Class.{isCapital, isSmall, isDigit}
 use Rattle.util.specs.Run.{run, runEnd, standsAt}
 use Rattle.mnemonic.specs.Mnemonic.{notSmall, compares, stem, numericSuffix, sameNumericSuffix}
@@ -19,10 +19,6 @@ endsFrom s letters = not (standsAt (code "0") s letters) && eqb (runEnd isDigit 
 -- capitals, one at least, small letters and digits that do not start with 0 are all that stands from a place on
 unfoldable pub namesFrom : List ℕ → ℕ → Bool
 namesFrom s at = ltb at (runEnd isCapital s at) && endsFrom s (runEnd isSmall s (runEnd isCapital s at))
-
--- the names begin with two different capitals
-unfoldable pub startsApart : List ℕ → List ℕ → Bool
-startsApart a b = isCapital (getD a 0 0) && (isCapital (getD b 0 0) && not (eqb (getD a 0 0) (getD b 0 0)))
 
 -- a text, or what stands in it before the small letters, is a form of the mnemonic
 unfoldable pub formOf : List ℕ → List ℕ → Bool

@@ -5,7 +5,7 @@ ghost use Rattle.util.specs.Decides.{Decides};
 ghost use Rattle.util.specs.Run.{run, runEnd};
 ghost use Rattle.mnemonic.specs.Mnemonic.{notSmall};
 ghost use Rattle.mnemonic.specs.Spelling.{Name};
-ghost use Rattle.name.specs.Name.{namesFrom, startsApart, formOf, shares};
+ghost use Rattle.name.specs.Name.{namesFrom, formOf, shares};
 
 // Whether a text is a name: perhaps a star, then capitals, small letters, and digits that do not start with 0.
 pub fn is_name(s: &[u8]) -> bool
@@ -21,9 +21,6 @@ pub fn is_name(s: &[u8]) -> bool
 pub fn is_spelling_shared(a: &[u8], b: &[u8]) -> bool
     ensures { λ r. ⌜ r ≡ shares (now (a .entry)) (now (b .entry)) ⌝ }
 {
-    if starts_apart(a, b) {
-        return false;
-    }
     let m = mnemonic::mnemonic_split_index(a);
     let n = mnemonic::mnemonic_split_index(b);
     if !mnemonic::is_same_numeric_suffix(&a[m..], &b[n..]) {
@@ -40,26 +37,10 @@ fn has_form(mnemonic: &[u8], letters: &[u8]) -> bool
         return true;
     }
     let short = short_end(letters);
+    if short == letters.len() {
+        return false;
+    }
     mnemonic::mnemonic_compare(mnemonic, &letters[..short])
-}
-
-// Whether two names begin with different capitals, so that no word can spell both.
-fn starts_apart(a: &[u8], b: &[u8]) -> bool
-    ensures { λ r. ⌜ r ≡ startsApart (now (a .entry)) (now (b .entry)) ⌝ }
-{
-    if a.len() == 0 {
-        return false;
-    }
-    if b.len() == 0 {
-        return false;
-    }
-    if a[0] == b[0] {
-        return false;
-    }
-    if !kind::is_capital(a[0]) {
-        return false;
-    }
-    kind::is_capital(b[0])
 }
 
 // The place where the small letters begin.

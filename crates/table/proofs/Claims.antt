@@ -21,8 +21,9 @@ use Rattle.table.specs.Claims.{Tree, rootAlone, Claims}
 use Rattle.table.specs.declared.Checked.{Checked}
 use Rattle.table.specs.declared.Checked.the-variants as checked
 use Rattle.table.proofs.Blocks.{in-table}
+use Rattle.table.proofs.NodeNames.{name-of}
 use Rattle.table.proofs.Shape.{holder-of, one-holder, child-after, child-in, near-in}
-use Rattle.table.proofs.Theorem.{name-of, one-default}
+use Rattle.table.proofs.Theorem.{one-default}
 
 module _ (t names : List ℕ) (ok : Accepted t names) where
   ready : Ready t names
@@ -60,7 +61,7 @@ module _ (t names : List ℕ) (ok : Accepted t names) where
         after = child-after t whole;
         inside = child-in t whole;
         one-default = one-default t names ready;
-        named = name-of t names ready;
+        named = name-of t names (ready .no-node-name);
         apart = apart;
       }
 

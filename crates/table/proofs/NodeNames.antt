@@ -13,8 +13,9 @@ use Rattle.util.specs.Decides.{Decides, holds, fails}
 use Rattle.util.specs.Run.{standsAt}
 use Rattle.util.proofs.Decided.{by-both, it-holds, it-fails}
 use Rattle.mnemonic.specs.Spelling.{Name}
+use Rattle.name.proofs.Names.{surely}
 use Rattle.node.specs.Word.{isBranch, isDefault, nameLength, nameStart, firstChild, childCount, nameIn}
-use Rattle.node.specs.Tree.{Child}
+use Rattle.node.specs.Tree.{nameOf, Child}
 use Rattle.node.proofs.Laws.{end-fits′}
 use Rattle.table.specs.Fault.{BadName, outside, no-byte, too-long, no-name, star-branch, star-default, star-below, NodeName}
 use Rattle.table.proofs.Before.{Before, none-yet, one-more}
@@ -123,3 +124,7 @@ module _ (t names : List ℕ) where
       names-more′ q i h = one-more (λ j. BadName t names j → ⊥) 1 k inv (it-fails d q) i h
 
 pub ruleset names-laws = (needs, names-begin′, names-end′, names-bad′, names-more′)
+
+-- in a table without fault 4 each node but the root has a name
+pub name-of : (t names : List ℕ) → (NodeName t names → ⊥) → (k : ℕ) → 0 < k → k < length t → Name (nameOf t names k)
+name-of t names ok k p l = surely (nameOf t names k) (λ n. ok (record { node = k; not-root = p; inside = l; bad = no-name n }))

@@ -1,21 +1,61 @@
 -- Laws of fault 6, as the code meets them.
 use Prim.Native.Nat.{ℕ, _+_, _-_, _≤_, _<_}
-use mathlib.Core.Path.{_≡_, sym, _∙_}
+use mathlib.Core.Path.{_≡_, sym, ap, _∙_}
+use mathlib.Core.Logic.{_⊎_, inl, inr}
 use mathlib.Core.List.{List}
 use mathlib.Core.Bool.{Bool, true, false}
+use native.Mathlib.Nat.{add-zero}
 use native.Mathlib.Omega.{arith}
-use lib.ListN.{length, getD}
+use lib.ListN.{length, getD, drop}
+use lib.Seq.{getD-take, getD-drop}
 use borrow.Author.Needs.{needs}
-use Rattle.kind.proofs.Tests.{clash}
+use borrow.Author.Tests.{le-leb}
+use Rattle.kind.proofs.Tests.{clash, less-or-not}
 use Rattle.util.specs.Decides.{Decides, holds, fails}
 use Rattle.util.proofs.Decided.{it-holds, it-fails}
+use Rattle.mnemonic.specs.Spelling.{Name}
 use Rattle.name.specs.Name.{shares}
-use Rattle.node.specs.Word.{firstChild, childCount, nameIn}
+use Rattle.name.proofs.Heads.{name-filled, initials}
+use Rattle.node.specs.Word.{nameLength, nameStart, firstChild, childCount, nameIn}
 use Rattle.node.specs.Tree.{branch, first, count, nameOf, Child, Near, child, under}
-use Rattle.table.specs.Parts.{OneDefault, DefaultBranch, Below, SharesIn, ChildrenShare, BlocksShare, NearShares, SharesAt, children, below, Ready}
+use Rattle.table.specs.Fault.{BadName, outside, no-byte}
+use Rattle.table.specs.Parts.{Block, OneDefault, DefaultBranch, Below, SharesIn, ChildrenShare, BlocksShare, NearShares, SharesAt, children, below, Ready}
 use Rattle.table.proofs.Before.{Before, none-yet, one-more}
 use Rattle.table.proofs.Blocks.{in-table, block-fits′}
+use Rattle.table.proofs.NodeNames.{name-of}
 use Rattle.table.proofs.Shape.{after, block-in, near-branch}
+
+-- the name of a node of a block
+
+module _ (t names : List ℕ) (from to : ℕ) (ok : Block t names from to) (k : ℕ) (l : from ≤ k) (u : k < to) where
+  good : BadName t names k → ⊥
+  good x =
+      ok .ready .no-node-name
+      (record { node = k; not-root = omega (arith, ok .some); inside = omega (arith, ok .within); bad = x })
+
+  name-is : Name (nameOf t names k)
+  name-is = name-of t names (ok .ready .no-node-name) k (omega (arith, ok .some)) (omega (arith, ok .within))
+
+  long : 0 < nameLength (getD t k 0)
+  long = go (less-or-not 0 (nameLength (getD t k 0)))
+    where
+      go : (0 < nameLength (getD t k 0)) ⊎ (nameLength (getD t k 0) ≤ 0) → 0 < nameLength (getD t k 0)
+      go (inl h) = h
+      go (inr h) = absurd (good (no-byte (omega arith)))
+
+  lies : nameStart (getD t k 0) + nameLength (getD t k 0) ≤ length names
+  lies = go (less-or-not (length names) (nameStart (getD t k 0) + nameLength (getD t k 0)))
+    where
+      go : (length names < nameStart (getD t k 0) + nameLength (getD t k 0)) ⊎ (nameStart (getD t k 0) + nameLength (getD t k 0) ≤ length names)
+          → nameStart (getD t k 0) + nameLength (getD t k 0) ≤ length names
+      go (inl h) = absurd (good (outside h))
+      go (inr h) = h
+
+  initial-is : getD (nameOf t names k) 0 0 ≡ getD names (nameStart (getD t k 0)) 0
+  unfolding nameIn
+  initial-is =
+      rw (le-leb (nameStart (getD t k 0) + nameLength (getD t k 0)) (length names) lies)
+      (getD-take (nameLength (getD t k 0)) (drop (nameStart (getD t k 0)) names) 0 0 long ∙ getD-drop (nameStart (getD t k 0)) names 0 0 ∙ ap (λ (i : ℕ). getD names i 0) (add-zero (nameStart (getD t k 0))))
 
 -- one name against a block
 
@@ -23,13 +63,28 @@ use Rattle.table.proofs.Shape.{after, block-in, near-branch}
 abbrev pub Apart : List ℕ → List ℕ → List ℕ → ℕ → ℕ → Type 0
 Apart t names name from k = Before (λ j. shares name (nameOf t names j) ≡ false) from k
 
-module _ (t names name : List ℕ) (from to : ℕ) where
-  pub block-begins′ : Apart t names name from from
-  block-begins′ = none-yet (λ j. shares name (nameOf t names j) ≡ false) from
+pub name-filled′ : (x : List ℕ) → Name x → 0 < length x
+name-filled′ = name-filled
 
-  module _ (k : ℕ) (inv : Apart t names name from k) where
+module _ (t names : List ℕ) (from to : ℕ) where
+  pub block-begins′ : (name : List ℕ) → Apart t names name from from
+  block-begins′ name = none-yet (λ j. shares name (nameOf t names j) ≡ false) from
+
+  module _ (name : List ℕ) (k : ℕ) (inv : Apart t names name from k) where
     pub block-end′ : to ≤ k → Decides (SharesIn t names name from to) false
     block-end′ h = fails (λ x. clash (x .shared) (inv .all (x .node) (x .low) (omega (arith, x .high))))
+
+    module _ (ok : Block t names from to) (l : k < to) where
+      pub block-within′ : k < length t
+      block-within′ = omega (arith, ok .within)
+
+      pub initial-within′ : (s : ℕ) → s ≡ nameStart (getD t k 0) → s < length names
+      initial-within′ s e = omega (arith, lies t names from to ok k (inv .low) l, long t names from to ok k (inv .low) l)
+
+      pub block-other′ : Name name → (s : ℕ) → s ≡ nameStart (getD t k 0) → (getD names s 0 ≡ getD name 0 0 → ⊥) → (i : ℕ) → i ≡ k + 1 → Apart t names name from i
+      block-other′ nm s e h i v =
+          one-more (λ j. shares name (nameOf t names j) ≡ false) from k inv
+          (initials name (nameOf t names k) nm (name-is t names from to ok k (inv .low) l) (λ q. h (rw e (sym (q ∙ initial-is t names from to ok k (inv .low) l))))) i v
 
     module _ (x : List ℕ) (g : x ≡ nameIn names (getD t k 0)) (r : Bool) (e : r ≡ shares name x) where
       pub block-found′ : k < to → r ≡ true → Decides (SharesIn t names name from to) true
@@ -38,7 +93,7 @@ module _ (t names name : List ℕ) (from to : ℕ) where
       pub block-more′ : r ≡ false → (i : ℕ) → i ≡ k + 1 → Apart t names name from i
       block-more′ q i h = one-more (λ j. shares name (nameOf t names j) ≡ false) from k inv (rw (← g) (sym e ∙ q)) i h
 
-pub ruleset block-laws = (needs, block-begins′, block-end′, block-found′, block-more′)
+pub ruleset block-laws = (needs, name-filled′, block-within′, initial-within′, block-begins′, block-end′, block-other′, block-found′, block-more′)
 
 -- a block against itself
 
@@ -54,6 +109,16 @@ module _ (t names : List ℕ) (from to : ℕ) where
     pub sisters-end′ : to ≤ k → Decides (ChildrenShare t names from to) false
     sisters-end′ h = fails (λ x. inv .all (x .one) (x .low) (omega (arith, x .rest .low, x .rest .high)) (x .rest))
 
+    module _ (ok : Block t names from to) (l : k < to) where
+      pub sister-within′ : k < length t
+      sister-within′ = omega (arith, ok .within)
+
+      pub sister-named′ : (x : List ℕ) → x ≡ nameIn names (getD t k 0) → Name x
+      sister-named′ x g = rw g (name-is t names from to ok k (inv .low) l)
+
+      pub rest-block′ : (n : ℕ) → n ≡ k + 1 → Block t names n to
+      rest-block′ n v = record { ready = ok .ready; some = omega arith; within = ok .within }
+
     module _ (x : List ℕ) (g : x ≡ nameIn names (getD t k 0)) (r : Bool) (n : ℕ) (v : n ≡ k + 1) (d : Decides (SharesIn t names x n to) r) where
       met : Decides (SharesIn t names (nameOf t names k) (k + 1) to) r
       met = rw (← g, ← v) d
@@ -64,7 +129,7 @@ module _ (t names : List ℕ) (from to : ℕ) where
       pub sisters-more′ : r ≡ false → (i : ℕ) → i ≡ k + 1 → Sisters t names from to i
       sisters-more′ q i h = one-more (λ j. SharesIn t names (nameOf t names j) (j + 1) to → ⊥) from k inv (it-fails met q) i h
 
-pub ruleset sisters-laws = (needs, sisters-begin′, sisters-end′, sisters-found′, sisters-more′)
+pub ruleset sisters-laws = (needs, sister-within′, sister-named′, rest-block′, sisters-begin′, sisters-end′, sisters-found′, sisters-more′)
 
 -- a block against another
 
@@ -80,6 +145,13 @@ module _ (t names : List ℕ) (first end from to : ℕ) where
     pub strangers-end′ : to ≤ k → Decides (BlocksShare t names first end from to) false
     strangers-end′ h = fails (λ x. inv .all (x .one) (x .low) (omega (arith, x .high)) (x .rest))
 
+    module _ (ok : Block t names from to) (l : k < to) where
+      pub stranger-within′ : k < length t
+      stranger-within′ = omega (arith, ok .within)
+
+      pub stranger-named′ : (x : List ℕ) → x ≡ nameIn names (getD t k 0) → Name x
+      stranger-named′ x g = rw g (name-is t names from to ok k (inv .low) l)
+
     module _ (x : List ℕ) (g : x ≡ nameIn names (getD t k 0)) (r : Bool) (d : Decides (SharesIn t names x first end) r) where
       found : Decides (SharesIn t names (nameOf t names k) first end) r
       found = rw (← g) d
@@ -90,7 +162,7 @@ module _ (t names : List ℕ) (first end from to : ℕ) where
       pub strangers-more′ : r ≡ false → (i : ℕ) → i ≡ k + 1 → Strangers t names first end from i
       strangers-more′ q i h = one-more (λ j. SharesIn t names (nameOf t names j) first end → ⊥) from k inv (it-fails found q) i h
 
-pub ruleset strangers-laws = (needs, strangers-begin′, strangers-end′, strangers-found′, strangers-more′)
+pub ruleset strangers-laws = (needs, stranger-within′, stranger-named′, strangers-begin′, strangers-end′, strangers-found′, strangers-more′)
 
 -- the near nodes of a branch against a block
 
@@ -100,6 +172,9 @@ module _ (t names : List ℕ) (ok : Ready t names) (b : ℕ) (m : branch t b ≡
 
   pub reaches′ : n ≤ length t
   reaches′ = rw (v, p, s) (block-in t (ok .blocks .no-child-blocks) b m)
+
+  pub its-block′ : Block t names f n
+  its-block′ = record { ready = ok; some = omega (arith, after t (ok .blocks .no-child-blocks) b m, p); within = reaches′ }
 
   ends-at : n ≡ first t b + count t b
   ends-at = rw (← p, ← s) v
@@ -195,6 +270,6 @@ in-table′ = in-table
 
 pub ruleset down-laws = (needs, goes-down′, deeper′)
 
-pub ruleset near-laws = (needs, block-fits′, in-table′, reaches′, one-default′, near-block′, near-none′, near-down′)
+pub ruleset near-laws = (needs, block-fits′, in-table′, reaches′, its-block′, one-default′, near-block′, near-none′, near-down′)
 
-pub ruleset at-laws = (needs, block-fits′, in-table′, reaches′, one-default′, goes-down′, at-children′, at-none′, at-below′)
+pub ruleset at-laws = (needs, block-fits′, in-table′, reaches′, its-block′, one-default′, goes-down′, at-children′, at-none′, at-below′)

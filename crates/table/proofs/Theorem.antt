@@ -11,29 +11,24 @@ use borrow.Author.Needs.{needs}
 use Rattle.kind.proofs.Tests.{clash, less-or-not}
 use Rattle.util.specs.Decides.{Decides, holds, fails}
 use Rattle.util.proofs.Decided.{it-holds, it-fails}
-use Rattle.mnemonic.specs.Spelling.{Name}
 use Rattle.name.specs.Name.{shares, Share}
 use Rattle.name.proofs.Shares.{sharing}
-use Rattle.name.proofs.Names.{surely}
 use Rattle.node.specs.Word.{isBranch}
 use Rattle.node.specs.Tree.{branch, default, nameOf, Child, Near, child, under}
-use Rattle.table.specs.Fault.{ChildBlocks, no-name, SharedSpelling}
+use Rattle.table.specs.Fault.{ChildBlocks, SharedSpelling}
 use Rattle.table.specs.Parts.{SharesAt, children, below, Ready}
 use Rattle.table.proofs.Before.{Before, none-yet, one-more}
 use Rattle.table.proofs.Blocks.{in-table}
+use Rattle.table.proofs.NodeNames.{name-of}
 use Rattle.table.proofs.Shape.{child-in, elsewhere, near-in}
 
 flip : {a b : List ℕ} → Share a b → Share b a
 flip s = record { word = s .word; one = s .other; other = s .one }
 
 module _ (t names : List ℕ) (ok : Ready t names) where
-  -- the nodes have names
-  pub name-of : (k : ℕ) → 0 < k → k < length t → Name (nameOf t names k)
-  name-of k p l = surely (nameOf t names k) (λ n. ok .no-node-name (record { node = k; not-root = p; inside = l; bad = no-name n }))
-
   module _ (k j : ℕ) (p : 0 < k) (l : k < length t) (q : 0 < j) (m : j < length t) where
     exact : Decides (Share (nameOf t names k) (nameOf t names j)) (shares (nameOf t names k) (nameOf t names j))
-    exact = sharing (nameOf t names k) (nameOf t names j) (name-of k p l) (name-of j q m)
+    exact = sharing (nameOf t names k) (nameOf t names j) (name-of t names (ok .no-node-name) k p l) (name-of t names (ok .no-node-name) j q m)
 
     tested : Share (nameOf t names k) (nameOf t names j) → shares (nameOf t names k) (nameOf t names j) ≡ true
     tested s = go (shares (nameOf t names k) (nameOf t names j)) refl exact

@@ -4,6 +4,7 @@ use mathlib.Core.Path.{_≡_}
 use mathlib.Core.List.{List}
 use mathlib.Core.Bool.{Bool, true, false, not, _&&_, _||_}
 use lib.Dec.{eqb}
+use lib.ListN.{length}
 use Rattle.name.specs.Name.{shares}
 use Rattle.node.specs.Word.{isBranch, isDefault, nameLength, nameStart, childCount, spareBits}
 use Rattle.node.specs.Tree.{branch, default, first, count, nameOf, Child, Near}
@@ -89,3 +90,9 @@ pub record Ready (t names : List ℕ) : Type 0 where
   pub blocks : Blocks t
   pub no-node-name : NodeName t names → ⊥
   pub no-two-defaults : TwoDefaults t → ⊥
+
+-- nodes of such a table from a place up to an end, none of them the root
+pub record Block (t names : List ℕ) (first end : ℕ) : Type 0 where
+  pub ready : Ready t names
+  pub some : 0 < first
+  pub within : end ≤ length t

@@ -4,9 +4,10 @@ ghost use mathlib.Core.Path.{_≡_};
 ghost use mathlib.Core.Bool.{true};
 ghost use lib.ListN.{length};
 ghost use Rattle.util.specs.Decides.{Decides};
+ghost use Rattle.mnemonic.specs.Spelling.{Name};
 ghost use Rattle.node.specs.Tree.{branch, Child};
 ghost use Rattle.table.specs.Fault.{NodeCount, NodeFields, ChildBlocks, BadName, NodeName, TwoDefaults, SharedSpelling, Verdict};
-ghost use Rattle.table.specs.Parts.{isRoot, hasFields, TwoDefaultsIn, NextDefault, OneDefault, DefaultBranch, Blocks, Ready, SharesIn, ChildrenShare, BlocksShare, NearShares, SharesAt};
+ghost use Rattle.table.specs.Parts.{isRoot, hasFields, TwoDefaultsIn, NextDefault, OneDefault, DefaultBranch, Blocks, Ready, Block, SharesIn, ChildrenShare, BlocksShare, NearShares, SharesAt};
 use error::ErrorCode;
 
 // A table with no fault is accepted; of any other the smallest fault is given.
@@ -273,7 +274,7 @@ fn shares_at(nodes: &[u64], names: &[u8], b: usize) -> bool
 
 // Whether a near node of a branch shares a spelling with a node of a block.
 fn near_shares(nodes: &[u64], names: &[u8], first: usize, end: usize, b: usize) -> bool
-    requires { ⌜ Ready (now nodes) (now names) × (end ≤ length (now nodes)) × (branch (now nodes) b ≡ true) ⌝ }
+    requires { ⌜ Block (now nodes) (now names) first end × (branch (now nodes) b ≡ true) ⌝ }
     ensures { λ r. ⌜ Decides (NearShares (now (nodes .entry)) (now (names .entry)) first end b) r ⌝ }
 {
     let word = nodes[b];
@@ -306,7 +307,7 @@ fn default_branch(nodes: &[u64], first: usize, end: usize) -> usize
 
 // Whether two nodes of a block share a spelling.
 fn children_share(nodes: &[u64], names: &[u8], first: usize, end: usize) -> bool
-    requires { ⌜ end ≤ length (now nodes) ⌝ }
+    requires { ⌜ Block (now nodes) (now names) first end ⌝ }
     ensures { λ r. ⌜ Decides (ChildrenShare (now (nodes .entry)) (now (names .entry)) first end) r ⌝ }
 {
     let mut k = first;
@@ -328,7 +329,7 @@ fn blocks_share(
     from: usize,
     to: usize,
 ) -> bool
-    requires { ⌜ (end ≤ length (now nodes)) × (to ≤ length (now nodes)) ⌝ }
+    requires { ⌜ Block (now nodes) (now names) first end × Block (now nodes) (now names) from to ⌝ }
     ensures { λ r. ⌜ Decides (BlocksShare (now (nodes .entry)) (now (names .entry)) first end from to) r ⌝ }
 {
     let mut k = from;
@@ -341,17 +342,23 @@ fn blocks_share(
     false
 }
 
-// Whether a node of a block shares a spelling with the name.
+// Whether a node of a block shares a spelling with the name. Most are told apart by their first byte.
 fn block_shares(nodes: &[u64], names: &[u8], name: &[u8], first: usize, end: usize) -> bool
-    requires { ⌜ end ≤ length (now nodes) ⌝ }
+    requires { ⌜ Block (now nodes) (now names) first end × Name (now name) ⌝ }
     ensures { λ r. ⌜ Decides (SharesIn (now (nodes .entry)) (now (names .entry)) (now (name .entry)) first end) r ⌝ }
 {
+    let initial = name[0];
     let mut k = first;
     while k < end {
-        if name::is_spelling_shared(name, node::name(names, nodes[k])) {
-            return true;
+        let word = nodes[k];
+        if names[node::name_start(word)] == initial {
+            if name::is_spelling_shared(name, node::name(names, word)) {
+                return true;
+            }
+            k += 1;
+        } else {
+            k += 1;
         }
-        k += 1;
     }
     false
 }

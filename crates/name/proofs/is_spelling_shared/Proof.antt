@@ -2,12 +2,6 @@ use Rattle.name.proofs.Laws.{share-laws}
 use Rattle.name.proofs.is_spelling_shared.Statement.{statement}
 use Rattle.name.proofs.is_spelling_shared.Tie as tie
 
-starts-apart-requires : tie.Need-starts-apart-requires
-starts-apart-requires c κs = search share-laws
-
-returns : tie.Need-returns
-returns c = search share-laws
-
 mnemonic-split-index-requires : tie.Need-mnemonic-split-index-requires
 mnemonic-split-index-requires c κs = search share-laws
 
@@ -35,8 +29,8 @@ part-is-same-numeric-suffix-end-2 c = search share-laws
 is-same-numeric-suffix-requires : tie.Need-is-same-numeric-suffix-requires
 is-same-numeric-suffix-requires c κs = search share-laws
 
-returns-2 : tie.Need-returns-2
-returns-2 c = search share-laws
+returns : tie.Need-returns
+returns c = search share-laws
 
 slice-aggregate-has-form : tie.Need-slice-aggregate-has-form
 slice-aggregate-has-form c = search share-laws
@@ -47,15 +41,13 @@ slice-aggregate-has-form-2 c = search share-laws
 has-form-requires : tie.Need-has-form-requires
 has-form-requires c κs = search share-laws
 
-returns-3 : tie.Need-returns-3
-returns-3 c = search share-laws
+returns-2 : tie.Need-returns-2
+returns-2 c = search share-laws
 
 pub is-spelling-shared-spec : {M : Type 1} → statement M
 is-spelling-shared-spec =
     tie.close
     (tie.spec
-    starts-apart-requires
-    returns
     mnemonic-split-index-requires
     mnemonic-split-index-requires-2
     sub-is-same-numeric-suffix
@@ -65,8 +57,8 @@ is-spelling-shared-spec =
     part-is-same-numeric-suffix-start-2
     part-is-same-numeric-suffix-end-2
     is-same-numeric-suffix-requires
-    returns-2
+    returns
     slice-aggregate-has-form
     slice-aggregate-has-form-2
     has-form-requires
-    returns-3)
+    returns-2)

@@ -212,7 +212,7 @@ fn name_answer(text: &[u8], n: usize, m: usize) -> [u8; 18]
 {
     let name = &text[..n];
     let word = &text[n..m];
-    report::names(
+    report_names::names(
         mnemonic::mnemonic_match(name, word),
         mnemonic::mnemonic_compare(name, word),
     )

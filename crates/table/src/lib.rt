@@ -10,25 +10,26 @@ ghost use Rattle.table.specs.Fault.{NodeCount, NodeFields, ChildBlocks, 
 ghost use Rattle.table.specs.Parts.{isRoot, hasFields, TwoDefaultsIn, NextDefault, OneDefault, DefaultBranch, Blocks, Ready, Block, SharesIn, ChildrenShare, BlocksShare, NearShares, SharesAt};
 use error::ErrorCode;
 
-// A table with no fault is accepted; of any other the smallest fault is given.
+// What the check says of a table: that it is accepted, or its smallest fault.
 pub enum Checked {
     Accepted,
     Fault(ErrorCode),
 }
 
+// Looks for the faults in their order. A table without any is accepted.
 pub fn check(nodes: &[u64], names: &[u8]) -> Checked
     ensures { λ r. ⌜ Verdict (now (nodes .entry)) (now (names .entry)) r ⌝ }
 {
-    if has_node_count(nodes) {
+    if has_wrong_count(nodes) {
         return Checked::Fault(ErrorCode::NodeCount);
     }
-    if has_node_fields(nodes) {
+    if has_wrong_fields(nodes) {
         return Checked::Fault(ErrorCode::NodeFields);
     }
-    if has_child_blocks(nodes) {
+    if has_wrong_blocks(nodes) {
         return Checked::Fault(ErrorCode::ChildBlocks);
     }
-    if has_node_name(nodes, names) {
+    if has_wrong_name(nodes, names) {
         return Checked::Fault(ErrorCode::NodeName);
     }
     if has_two_defaults(nodes) {
@@ -41,7 +42,7 @@ pub fn check(nodes: &[u64], names: &[u8]) -> Checked
 }
 
 // Fault 1: no node, or more than 4,096.
-fn has_node_count(nodes: &[u64]) -> bool
+fn has_wrong_count(nodes: &[u64]) -> bool
     ensures { λ r. ⌜ Decides (NodeCount (now (nodes .entry))) r ⌝ }
 {
     if nodes.len() == 0 {
@@ -51,7 +52,7 @@ fn has_node_count(nodes: &[u64]) -> bool
 }
 
 // Fault 2: fields that a root or a node may not have.
-fn has_node_fields(nodes: &[u64]) -> bool
+fn has_wrong_fields(nodes: &[u64]) -> bool
     ensures { λ r. ⌜ Decides (NodeFields (now (nodes .entry))) r ⌝ }
 {
     if nodes.len() == 0 {
@@ -100,7 +101,7 @@ fn has_fields(word: u64) -> bool
 }
 
 // Fault 3: child blocks that do not follow each other from node 1 to the end, or one that starts at or before its branch.
-fn has_child_blocks(nodes: &[u64]) -> bool
+fn has_wrong_blocks(nodes: &[u64]) -> bool
     ensures { λ r. ⌜ Decides (ChildBlocks (now (nodes .entry))) r ⌝ }
 {
     let mut behind = 1;
@@ -125,7 +126,7 @@ fn has_child_blocks(nodes: &[u64]) -> bool
 }
 
 // Fault 4: a bad name of a node that is not the root.
-fn has_node_name(nodes: &[u64], names: &[u8]) -> bool
+fn has_wrong_name(nodes: &[u64], names: &[u8]) -> bool
     ensures { λ r. ⌜ Decides (NodeName (now (nodes .entry)) (now (names .entry))) r ⌝ }
 {
     let mut k = 1;

@@ -1,8 +1,8 @@
 use Prim.Native.Nat.{_-_}
 use lib.ListN.{length}
 use Rattle.table.proofs.NodeNames.{Named, names-laws}
-use Rattle.table.proofs.has_node_name.Statement.{statement}
-use Rattle.table.proofs.has_node_name.Tie as tie
+use Rattle.table.proofs.has_wrong_name.Statement.{statement}
+use Rattle.table.proofs.has_wrong_name.Tie as tie
 
 abbrev Inv-loop : tie.InvT-loop
 Inv-loop nodes names k₀ k = Named nodes names k
@@ -31,8 +31,8 @@ loop-again c = search names-laws
 returns-2 : tie.Need-returns-2 Inv-loop μ-loop
 returns-2 c = search names-laws
 
-pub has-node-name-spec : {M : Type 1} → statement M
-has-node-name-spec =
+pub has-wrong-name-spec : {M : Type 1} → statement M
+has-wrong-name-spec =
     tie.close
     (tie.spec
     Inv-loop

@@ -1,8 +1,8 @@
 use Prim.Native.Nat.{_-_}
 use lib.ListN.{length}
 use Rattle.table.proofs.Blocks.{Follows, blocks-laws}
-use Rattle.table.proofs.has_child_blocks.Statement.{statement}
-use Rattle.table.proofs.has_child_blocks.Tie as tie
+use Rattle.table.proofs.has_wrong_blocks.Statement.{statement}
+use Rattle.table.proofs.has_wrong_blocks.Tie as tie
 
 abbrev Inv-loop : tie.InvT-loop
 Inv-loop nodes behind₀ k₀ behind k = Follows nodes k behind
@@ -58,8 +58,8 @@ loop-again-2 c = search blocks-laws
 returns-3 : tie.Need-returns-3 Inv-loop μ-loop
 returns-3 c = search blocks-laws
 
-pub has-child-blocks-spec : {M : Type 1} → statement M
-has-child-blocks-spec =
+pub has-wrong-blocks-spec : {M : Type 1} → statement M
+has-wrong-blocks-spec =
     tie.close
     (tie.spec
     Inv-loop

@@ -1,8 +1,8 @@
 -- The two digits stand where the line has its zeros.
 use borrow.Author.Needs.{needs}
-use Rattle.report.specs.Line.{namesText}
-use Rattle.report.proofs.names.Statement.{statement}
-use Rattle.report.proofs.names.Tie as tie
+use Rattle.report_names.specs.Line.{namesText}
+use Rattle.report_names.proofs.names.Statement.{statement}
+use Rattle.report_names.proofs.names.Tie as tie
 
 digit-requires : tie.Need-digit-requires
 digit-requires c κs = search needs

@@ -1,8 +1,8 @@
 use Prim.Native.Nat.{_-_}
 use lib.ListN.{length}
 use Rattle.table.proofs.Fields.{Fitting, fields-laws}
-use Rattle.table.proofs.has_node_fields.Statement.{statement}
-use Rattle.table.proofs.has_node_fields.Tie as tie
+use Rattle.table.proofs.has_wrong_fields.Statement.{statement}
+use Rattle.table.proofs.has_wrong_fields.Tie as tie
 
 abbrev Inv-loop : tie.InvT-loop
 Inv-loop nodes k₀ k = Fitting nodes k
@@ -49,8 +49,8 @@ loop-again c = search fields-laws
 returns-4 : tie.Need-returns-4 Inv-loop μ-loop
 returns-4 c = search fields-laws
 
-pub has-node-fields-spec : {M : Type 1} → statement M
-has-node-fields-spec =
+pub has-wrong-fields-spec : {M : Type 1} → statement M
+has-wrong-fields-spec =
     tie.close
     (tie.spec
     Inv-loop

@@ -23,7 +23,7 @@ use Rattle.table.specs.declared.Checked.the-variants as checked
 use Rattle.table.proofs.Blocks.{in-table}
 use Rattle.table.proofs.NodeNames.{name-of}
 use Rattle.table.proofs.Shape.{holder-of, one-holder, child-after, child-in, near-in}
-use Rattle.table.proofs.Theorem.{one-default}
+use Rattle.table.proofs.Theorem.{one-default, enough}
 
 module _ (t names : List ℕ) (ok : Accepted t names) where
   ready : Ready t names
@@ -137,4 +137,4 @@ none e n (two-defaults x) = omega (arith, child-after alone no-blocks (x .child-
 none e n (shared-spelling x) = let z = near-in alone no-blocks (x .near-one) in omega (arith, z .0, z .1)
 
 pub claims : Claims
-claims = record { accepted = tree; root-alone = record { faultless = none }; one-verdict = one-verdict; numbers = numbers }
+claims = record { accepted = tree; root-alone = record { faultless = none }; one-verdict = one-verdict; enough = enough; numbers = numbers }

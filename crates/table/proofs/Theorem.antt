@@ -1,7 +1,7 @@
 -- It is enough to compare, at each branch, its children with each other and with the near nodes of its default branch.
 use Prim.Native.Nat.{ℕ, _+_, _≤_, _<_}
 use mathlib.Core.Path.{_≡_, refl, sym, subst, _∙_}
-use mathlib.Core.Logic.{_⊎_, inl, inr}
+use mathlib.Core.Logic.{_↔_, _⊎_, inl, inr}
 use mathlib.Core.List.{List}
 use mathlib.Core.Bool.{Bool, true, false}
 use native.Mathlib.Decide.{ℕ-discrete}
@@ -121,6 +121,9 @@ module _ (t names : List ℕ) (ok : Ready t names) where
         two = λ q. elsewhere t whole c (z .inner-child) (subst (λ (k : ℕ). Near t (z .inner) k) q (x .near));
         shared = shared (x .one) (x .rest .node) (near-in t whole (x .near) .0) (near-in t whole (x .near) .1) (near-in t whole (child c) .0) (child-in t whole c) (x .rest .shared);
       }
+
+  pub enough : SharedSpelling t names ↔ ((b : ℕ) × (branch t b ≡ true) × SharesAt t names b)
+  enough = (λ x. found (x .near-one) (x .near-other) (x .two) (x .shared), λ x. sound (x .1) (x .2))
 
 -- what the loop keeps: nothing was found at a branch before b
 abbrev pub Clear : List ℕ → List ℕ → ℕ → Type 0

@@ -1,6 +1,7 @@
 -- What is proved of these definitions, besides the promise of the check. The proofs are in proofs/Claims.
 use Prim.Native.Nat.{ℕ, _+_, _^_, _<_}
 use mathlib.Core.Path.{_≡_}
+use mathlib.Core.Logic.{_↔_}
 use mathlib.Core.List.{List, [], _∷_}
 use mathlib.Core.Bool.{true}
 use lib.IntN.{pos}
@@ -9,7 +10,8 @@ use Rattle.error.specs.Code.{codeOf}
 use Rattle.error.specs.declared.ErrorCode.{ErrorCode}
 use Rattle.mnemonic.specs.Spelling.{Name, spells}
 use Rattle.node.specs.Tree.{branch, default, nameOf, Child, Near}
-use Rattle.table.specs.Fault.{Fault, Accepted, Verdict}
+use Rattle.table.specs.Fault.{SharedSpelling, Fault, Accepted, Verdict}
+use Rattle.table.specs.Parts.{Ready, SharesAt}
 use Rattle.table.specs.declared.Checked.{Checked}
 
 -- An accepted table is a tree of named nodes, in which a word has one meaning at most at each branch.
@@ -40,5 +42,8 @@ pub record Claims : Type 0 where
   pub root-alone : Accepted (rootAlone ∷ []) []
   -- the check can say one thing only of a table
   pub one-verdict : (t names : List ℕ) (c d : Checked) → Verdict t names c → Verdict t names d → c ≡ d
+  -- two near nodes of some branch share a spelling exactly where, at some branch, two children do, or a child and a near node of the
+  -- default branch
+  pub enough : (t names : List ℕ) → Ready t names → SharedSpelling t names ↔ ((b : ℕ) × (branch t b ≡ true) × SharesAt t names b)
   -- a fault is reported by its number
   pub numbers : (t names : List ℕ) (e : ErrorCode) (n : ℕ) → Fault t names e n → codeOf e ≡ pos n

@@ -14,7 +14,7 @@ use Rattle.kind.proofs.Classes.{capital-no-digit, capital-no-small}
 use Rattle.util.specs.Run.{run, every}
 use Rattle.mnemonic.specs.Mnemonic.{pairs, folded, eitherCase, notSmall, compares, lastEnd, numericSuffixStart, stem}
 use Rattle.mnemonic.specs.Spelling.{Name}
-use Rattle.name.specs.Name.{formOf, shares}
+use Rattle.name.specs.Share.{formOf, shares}
 
 -- what a name may begin with
 Initial : ℕ → Type 0

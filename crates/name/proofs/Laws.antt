@@ -16,7 +16,8 @@ use Rattle.util.proofs.Runs.{run-past, run-stop, run-more}
 use Rattle.mnemonic.specs.Mnemonic.{notSmall, compares, numericSuffixStart, sameNumericSuffix}
 use Rattle.mnemonic.proofs.Compare.{part-long′, to-end}
 use Rattle.mnemonic.proofs.Split.{starts-within′}
-use Rattle.name.specs.Name.{endsFrom, namesFrom, formOf, shares}
+use Rattle.name.specs.Parts.{endsFrom, namesFrom}
+use Rattle.name.specs.Share.{formOf, shares}
 
 -- the short form
 

@@ -19,7 +19,7 @@ use Rattle.util.specs.Run.{run, runEnd, standsAt, every}
 use Rattle.util.proofs.Decided.{by-both}
 use Rattle.util.proofs.Every.{every-run, run-every, run-whole, every-run-front, run-within}
 use Rattle.mnemonic.specs.Spelling.{Name}
-use Rattle.name.specs.Name.{endsFrom, namesFrom}
+use Rattle.name.specs.Parts.{endsFrom, namesFrom}
 
 -- a name behind its star
 record Plain (x : List ℕ) : Type 0 where

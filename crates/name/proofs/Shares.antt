@@ -16,7 +16,7 @@ use Rattle.mnemonic.specs.Mnemonic.{pairs, folded, eitherCase, alike, same, com
 use Rattle.mnemonic.specs.Spelling.{Name, long, short, spells}
 use Rattle.mnemonic.proofs.Alike.{suffix-itself, start-behind}
 use Rattle.mnemonic.proofs.Spelling.{form-compares, forms-of, short-ends}
-use Rattle.name.specs.Name.{formOf, shares, Share}
+use Rattle.name.specs.Share.{formOf, shares, Share}
 
 -- texts alike are one text in one case
 

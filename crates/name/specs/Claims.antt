@@ -6,7 +6,7 @@ use mathlib.Core.Bool.{Bool, false}
 use lib.ListN.{getD}
 use Rattle.util.specs.Decides.{Decides}
 use Rattle.mnemonic.specs.Spelling.{Name}
-use Rattle.name.specs.Name.{shares, Share}
+use Rattle.name.specs.Share.{shares, Share}
 
 pub record Claims : Type 0 where
   -- there is one answer to whether a text is a name

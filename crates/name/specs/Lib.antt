@@ -1,2 +1,3 @@
-pub mod Name
+pub mod Share
+pub mod Parts
 pub mod Claims

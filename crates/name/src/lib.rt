@@ -5,7 +5,8 @@ ghost use Rattle.util.specs.Decides.{Decides};
 ghost use Rattle.util.specs.Run.{run, runEnd};
 ghost use Rattle.mnemonic.specs.Mnemonic.{notSmall};
 ghost use Rattle.mnemonic.specs.Spelling.{Name};
-ghost use Rattle.name.specs.Name.{namesFrom, formOf, shares};
+ghost use Rattle.name.specs.Parts.{namesFrom};
+ghost use Rattle.name.specs.Share.{formOf, shares};
 
 // Whether a text is a name: perhaps a star, then capitals, small letters, and digits that do not start with 0.
 pub fn is_name(s: &[u8]) -> bool

@@ -14,7 +14,7 @@ use Rattle.kind.proofs.Tests.{clash, less-or-not}
 use Rattle.util.specs.Decides.{Decides, holds, fails}
 use Rattle.util.proofs.Decided.{it-holds, it-fails}
 use Rattle.mnemonic.specs.Spelling.{Name}
-use Rattle.name.specs.Name.{shares}
+use Rattle.name.specs.Share.{shares}
 use Rattle.name.proofs.Heads.{name-filled, initials}
 use Rattle.node.specs.Word.{nameLength, nameStart, firstChild, childCount, nameIn}
 use Rattle.node.specs.Tree.{branch, first, count, nameOf, Child, Near, child, under}

@@ -11,7 +11,7 @@ use borrow.Author.Needs.{needs}
 use Rattle.kind.proofs.Tests.{clash, less-or-not}
 use Rattle.util.specs.Decides.{Decides, holds, fails}
 use Rattle.util.proofs.Decided.{it-holds, it-fails}
-use Rattle.name.specs.Name.{shares, Share}
+use Rattle.name.specs.Share.{shares, Share}
 use Rattle.name.proofs.Shares.{sharing}
 use Rattle.node.specs.Word.{isBranch}
 use Rattle.node.specs.Tree.{branch, default, nameOf, Child, Near, child, under}

@@ -9,7 +9,7 @@ use Rattle.error.specs.declared.ErrorCode.{ErrorCode}
 use Rattle.error.specs.declared.ErrorCode.the-variants as refusal
 use Rattle.util.specs.Run.{standsAt}
 use Rattle.mnemonic.specs.Spelling.{Name}
-use Rattle.name.specs.Name.{Share}
+use Rattle.name.specs.Share.{Share}
 use Rattle.node.specs.Word.{nameLength, nameStart, spareBits}
 use Rattle.node.specs.Tree.{branch, default, first, count, nameOf, Child, Near}
 use Rattle.table.specs.declared.Checked.{Checked}

@@ -1,11 +1,11 @@
--- What the functions of the check look for, each in its part of the table.
+-- What the functions of the check look for, each in its part of the table. The promise of the check does not rest on these.
 use Prim.Native.Nat.{ℕ, _+_, _≤_, _<_}
 use mathlib.Core.Path.{_≡_}
 use mathlib.Core.List.{List}
 use mathlib.Core.Bool.{Bool, true, false, not, _&&_, _||_}
 use lib.Dec.{eqb}
 use lib.ListN.{length}
-use Rattle.name.specs.Name.{shares}
+use Rattle.name.specs.Share.{shares}
 use Rattle.node.specs.Word.{isBranch, isDefault, nameLength, nameStart, childCount, spareBits}
 use Rattle.node.specs.Tree.{branch, default, first, count, nameOf, Child, Near}
 use Rattle.table.specs.Fault.{ChildBlocks, NodeName, TwoDefaults}

@@ -1,24 +1,12 @@
--- How the runs of a table name go on, and names with a spelling in common. What a name is, and which words spell one, is said in
--- Spelling of the crate mnemonic.
+-- Names with a spelling in common. What a name is, and which words spell one, is said in Spelling of the crate mnemonic.
 use Prim.Native.Nat.{ℕ}
-use Prim.Native.Char.{code}
 use mathlib.Core.Path.{_≡_}
 use mathlib.Core.List.{List}
-use mathlib.Core.Bool.{Bool, true, not, _&&_, _||_}
-use lib.Dec.{eqb, ltb}
-use lib.ListN.{length, take}
-use Rattle.kind.specs.Class.{isCapital, isSmall, isDigit}
-use Rattle.util.specs.Run.{run, runEnd, standsAt}
+use mathlib.Core.Bool.{Bool, true, _&&_, _||_}
+use lib.ListN.{take}
+use Rattle.util.specs.Run.{run}
 use Rattle.mnemonic.specs.Mnemonic.{notSmall, compares, stem, numericSuffix, sameNumericSuffix}
 use Rattle.mnemonic.specs.Spelling.{spells}
-
--- behind the letters stand digits that do not start with 0, or none, up to the end of the text
-unfoldable pub endsFrom : List ℕ → ℕ → Bool
-endsFrom s letters = not (standsAt (code "0") s letters) && eqb (runEnd isDigit s letters) (length s)
-
--- capitals, one at least, small letters and digits that do not start with 0 are all that stands from a place on
-unfoldable pub namesFrom : List ℕ → ℕ → Bool
-namesFrom s at = ltb at (runEnd isCapital s at) && endsFrom s (runEnd isSmall s (runEnd isCapital s at))
 
 -- a text, or what stands in it before the small letters, is a form of the mnemonic
 unfoldable pub formOf : List ℕ → List ℕ → Bool

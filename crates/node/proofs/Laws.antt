@@ -1,14 +1,16 @@
--- Laws of the name of a node, as the code meets them.
+-- Laws of the fields of a node, as the code meets them.
 use Prim.Native.Nat.{ℕ, _+_, _-_, _≤_, _<_}
-use mathlib.Core.Path.{_≡_}
+use mathlib.Core.Path.{_≡_, refl}
 use mathlib.Core.List.{List}
+use mathlib.Core.Bool.{false}
 use native.Mathlib.Omega.{arith}
-use lib.ListN.{length, take, drop}
+use lib.ListN.{length, take, drop, List·getD-eq-default}
 use mir.Syntax.{w64}
 use mir.Val.{Fits}
 use borrow.Author.Needs.{needs}
 use borrow.Author.Tests.{le-leb, lt-leb}
-use Rattle.node.specs.Word.{nameLength, nameStart, firstChild, childCount, nameIn}
+use Rattle.node.specs.Word.{isBranch, nameLength, nameStart, firstChild, childCount, nameIn}
+use Rattle.node.specs.Tree.{branch}
 
 -- fields are small
 
@@ -19,6 +21,14 @@ name-ends w = omega arith
 pub block-ends : (w : ℕ) → firstChild w + childCount w < 131072
 unfolding firstChild childCount
 block-ends w = omega arith
+
+pub block-fits′ : (w f c : ℕ) → f ≡ firstChild w → c ≡ childCount w → Fits w64 (f + c)
+block-fits′ w f c p q = record { fits = omega (arith, block-ends w) }
+
+-- there is no branch past the end of the table
+pub past-table : (t : List ℕ) (b : ℕ) → length t ≤ b → branch t b ≡ false
+unfolding isBranch
+past-table t b h = rw (List·getD-eq-default t 0 h)
 
 module _ (w a b : ℕ) (e : a ≡ nameStart w) (f : b ≡ nameLength w) where
   pub end-fits′ : Fits w64 (a + b)

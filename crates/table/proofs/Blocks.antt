@@ -7,9 +7,7 @@ use mathlib.Core.Bool.{Bool, true, false, not}
 use native.Mathlib.Numerals.{add-one}
 use native.Mathlib.Omega.{arith}
 use lib.Dec.{eqb}
-use lib.ListN.{length, getD, List·getD-eq-default}
-use mir.Syntax.{w64}
-use mir.Val.{Fits}
+use lib.ListN.{length, getD}
 use borrow.Author.Needs.{needs}
 use borrow.Author.Tests.{not-true, eqb-false, ne-eqb}
 use Rattle.kind.proofs.Tests.{clash, less-or-not}
@@ -17,18 +15,17 @@ use Rattle.util.specs.Decides.{Decides, holds}
 use Rattle.util.proofs.Decided.{by-both}
 use Rattle.node.specs.Word.{isBranch, firstChild, childCount}
 use Rattle.node.specs.Tree.{branch, first}
-use Rattle.node.proofs.Laws.{block-ends}
+use Rattle.node.proofs.Laws.{block-fits′, past-table}
 use Rattle.table.specs.Fault.{behind, ChildBlocks, not-behind, not-to-end, too-early}
-use Rattle.table.proofs.Before.{Before, none-yet, one-more}
+use Rattle.util.proofs.Before.{Before, none-yet, one-more}
 
 -- a branch lies in the table
 pub in-table : (t : List ℕ) (b : ℕ) → branch t b ≡ true → b < length t
-unfolding isBranch
 in-table t b h = go (less-or-not b (length t))
   where
     go : (b < length t) ⊎ (length t ≤ b) → b < length t
     go (inl l) = l
-    go (inr l) = let z : getD t b 0 ≡ 0 = List·getD-eq-default t 0 l in clash (rw z at h) refl
+    go (inr l) = clash h (past-table t b l)
 
 -- a branch has its block behind those before it, and after itself
 pub record Placed (t : List ℕ) (b : ℕ) : Type 0 where
@@ -40,9 +37,6 @@ pub record Follows (t : List ℕ) (k a : ℕ) : Type 0 where
   pub within : k ≤ length t
   pub place : a ≡ behind t k
   pub placed : Before (Placed t) 0 k
-
-pub block-fits′ : (w f c : ℕ) → f ≡ firstChild w → c ≡ childCount w → Fits w64 (f + c)
-block-fits′ w f c p q = record { fits = omega (arith, block-ends w) }
 
 module _ (t : List ℕ) where
   pub blocks-begins′ : Follows t 0 1

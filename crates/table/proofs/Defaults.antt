@@ -15,10 +15,11 @@ use Rattle.util.specs.Decides.{Decides, holds, fails}
 use Rattle.util.proofs.Decided.{by-both, it-holds, it-fails}
 use Rattle.node.specs.Word.{isBranch, isDefault, firstChild, childCount}
 use Rattle.node.specs.Tree.{branch, default, first, count}
+use Rattle.node.proofs.Laws.{block-fits′}
 use Rattle.table.specs.Fault.{TwoDefaults}
 use Rattle.table.specs.Parts.{TwoDefaultsIn, NextDefault, OneDefault, DefaultBranch, Blocks}
-use Rattle.table.proofs.Before.{Before, none-yet, one-more}
-use Rattle.table.proofs.Blocks.{in-table, block-fits′}
+use Rattle.util.proofs.Before.{Before, none-yet, one-more}
+use Rattle.table.proofs.Blocks.{in-table}
 use Rattle.table.proofs.Shape.{block-in}
 
 -- the next default node

@@ -14,7 +14,7 @@ use Rattle.util.proofs.Decided.{by-both}
 use Rattle.node.specs.Word.{isBranch, isDefault, nameLength, nameStart, childCount, spareBits}
 use Rattle.table.specs.Fault.{NodeCount, no-node, too-many, NodeFields, spare-bits, root-no-branch, root-default, root-name-length, root-name-start, leaf-children}
 use Rattle.table.specs.Parts.{isRoot, hasFields}
-use Rattle.table.proofs.Before.{Before, none-yet, one-more}
+use Rattle.util.proofs.Before.{Before, none-yet, one-more}
 
 module _ (t : List ℕ) where
   pub count-none′ : length t ≡ 0 → Decides (NodeCount t) true

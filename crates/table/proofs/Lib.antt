@@ -1,5 +1,4 @@
 -- Laws that belong to no one function.
-pub mod Before
 pub mod Fields
 pub mod Blocks
 pub mod Shape

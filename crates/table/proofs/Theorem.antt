@@ -17,7 +17,7 @@ use Rattle.node.specs.Word.{isBranch}
 use Rattle.node.specs.Tree.{branch, default, nameOf, Child, Near, child, under}
 use Rattle.table.specs.Fault.{ChildBlocks, SharedSpelling}
 use Rattle.table.specs.Parts.{SharesAt, children, below, Ready}
-use Rattle.table.proofs.Before.{Before, none-yet, one-more}
+use Rattle.util.proofs.Before.{Before, none-yet, one-more}
 use Rattle.table.proofs.Blocks.{in-table}
 use Rattle.table.proofs.NodeNames.{name-of}
 use Rattle.table.proofs.Shape.{child-in, elsewhere, near-in}

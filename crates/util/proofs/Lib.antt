@@ -3,3 +3,4 @@ pub mod Runs
 pub mod Every
 pub mod Walks
 pub mod Decided
+pub mod Before

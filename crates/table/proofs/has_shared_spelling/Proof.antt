@@ -1,6 +1,6 @@
 use Prim.Native.Nat.{_-_}
 use lib.ListN.{length}
-use Rattle.table.proofs.Before.{Before}
+use Rattle.util.proofs.Before.{Before}
 use Rattle.table.proofs.Theorem.{Clear, clear-laws}
 use Rattle.table.proofs.has_shared_spelling.Statement.{statement}
 use Rattle.table.proofs.has_shared_spelling.Tie as tie

@@ -1,11 +1,11 @@
--- What a loop over the nodes keeps: that something holds of all that it has passed.
+-- What a loop keeps: that something holds of all that it has passed.
 use Prim.Native.Nat.{ℕ, _+_, _≤_, _<_}
 use mathlib.Core.Path.{_≡_}
 use mathlib.Core.Logic.{_⊎_, inl, inr}
 use native.Mathlib.Omega.{arith}
 use Rattle.kind.proofs.Tests.{less-or-not}
 
--- P holds of the nodes from a place up to k
+-- P holds from a place up to k
 pub record Before (P : ℕ → Type 0) (from k : ℕ) : Type 0 where
   pub low : from ≤ k
   pub all : (j : ℕ) → from ≤ j → j < k → P j

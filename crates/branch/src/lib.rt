@@ -1,0 +1,72 @@
+// The children of a branch: the one that a word spells, and the default one. `exec` of tree/mod.rs of the original looks for these.
+ghost use mathlib.Core.Path.{_≡_};
+ghost use Rattle.branch.specs.Children.{spokenBy, unsaidIn, Covers, Picks};
+
+// The child that was looked for.
+pub enum Pick {
+    Child(usize),
+    None,
+}
+
+// The children of a branch: the nodes from one place up to another.
+struct Block {
+    from: usize,
+    to: usize,
+}
+
+// The first child of a branch that the word spells.
+pub fn spoken_child(nodes: &[u64], names: &[u8], b: usize, word: &[u8]) -> Pick
+    ensures { λ r. ⌜ Picks (now (nodes .entry)) b (spokenBy (now (nodes .entry)) (now (names .entry)) (now (word .entry))) r ⌝ }
+{
+    let block = children(nodes, b);
+    let to = block.to;
+    let mut k = block.from;
+    while k < to {
+        if mnemonic::mnemonic_match(node::name(names, nodes[k]), word) {
+            return Pick::Child(k);
+        }
+        k += 1;
+    }
+    Pick::None
+}
+
+// The first default child of a branch.
+pub fn default_child(nodes: &[u64], b: usize) -> Pick
+    ensures { λ r. ⌜ Picks (now (nodes .entry)) b (unsaidIn (now (nodes .entry))) r ⌝ }
+{
+    let block = children(nodes, b);
+    let to = block.to;
+    let mut k = block.from;
+    while k < to {
+        if node::is_default(nodes[k]) {
+            return Pick::Child(k);
+        }
+        k += 1;
+    }
+    Pick::None
+}
+
+// Where the children of a branch stand. A block that does not lie behind its branch in the table has none.
+fn children(nodes: &[u64], b: usize) -> Block
+    ensures { λ r. ⌜ Covers (now (nodes .entry)) b (r .from) (r .to) ⌝ }
+{
+    if nodes.len() <= b {
+        return Block { from: 0, to: 0 };
+    }
+    let word = nodes[b];
+    if !node::is_branch(word) {
+        return Block { from: 0, to: 0 };
+    }
+    let first = node::first_child(word);
+    if first <= b {
+        return Block { from: 0, to: 0 };
+    }
+    let end = first + node::child_count(word);
+    if nodes.len() < end {
+        return Block { from: 0, to: 0 };
+    }
+    Block {
+        from: first,
+        to: end,
+    }
+}

@@ -1,0 +1,80 @@
+-- Laws of the way down the tree, as the code meets them.
+use Prim.Native.Nat.{ℕ, _-_, _<_}
+use mathlib.Core.Path.{_≡_, refl, sym, _∙_}
+use mathlib.Core.List.{List}
+use mathlib.Core.Bool.{Bool, true, false, not}
+use native.Mathlib.Omega.{arith}
+use lib.ListN.{length, getD}
+use borrow.Author.Needs.{needs}
+use borrow.Author.Tests.{not-true, not-false}
+use Rattle.error.specs.declared.ErrorCode.{ErrorCode}
+use Rattle.node.specs.Word.{isBranch, commandNumber}
+use Rattle.branch.specs.Children.{Below, spokenBy, unsaidIn, Picks, first-one, not-one}
+use Rattle.branch.specs.declared.Pick.{Pick}
+use Rattle.branch.specs.declared.Pick.the-variants as pick
+use Rattle.branch.proofs.Picks.{below-in}
+use Rattle.token.specs.View.{partOf}
+use Rattle.token.specs.declared.View.{View}
+use Rattle.tokenizer.specs.Step.{step}
+use Rattle.tokenizer.specs.declared.Step.{Step}
+use Rattle.tree.specs.Header.{leafAnswer, turnOf, undefined, Reads, leaf, refused, said, unsaid, unknown, ended, nowhere}
+use Rattle.tree.specs.declared.Turn.{Turn}
+use Rattle.tree.specs.declared.Turn.the-variants as turn
+use Rattle.tree.specs.declared.Header.{Header}
+use Rattle.tree.specs.declared.Header.the-variants as header
+
+-- the number of a pick, and n where there is none
+abbrev numberOf : ℕ → Pick → ℕ
+numberOf n (pick.Child k) = k
+numberOf n pick.None = n
+
+-- what was picked is a child
+picked : {t : List ℕ} {b k : ℕ} {q : ℕ → Bool} {p : Pick} → Picks t b q p → p ≡ pick.Child k → Below t b k
+picked {t} {b} (first-one x e f) h = rw (mathlib.Core.Path.ap (numberOf b) h) at x
+picked (not-one f) h = absurd (clash-pick h)
+  where
+    isChild : Pick → Bool
+    isChild (pick.Child k) = true
+    isChild pick.None = false
+
+    clash-pick : {k : ℕ} → pick.None ≡ pick.Child k → ⊥
+    clash-pick e = mathlib.Core.Bool.false≢true (mathlib.Core.Path.ap isChild e)
+
+module _ (t : List ℕ) (b k : ℕ) (p : Pick) (e : p ≡ pick.Child k) (q : ℕ → Bool) (x : Picks t b q p) where
+  pub child-in′ : k < length t
+  child-in′ = below-in (picked x e)
+
+  pub deeper′ : (μ : ℕ) → length t - b ≡ μ → length t - k < μ
+  deeper′ μ h =
+      let y = picked x e in
+      omega (arith, h, below-in y, y .behind, y .child .from)
+
+pub ruleset down-laws = (needs, child-in′, deeper′)
+
+module _ (t names s : List ℕ) (h n : ℕ) (st : Step) (b : Bool) (eb : b ≡ isBranch (getD t n 0)) where
+  pub leaf′ : not b ≡ true → (c : ℕ) → c ≡ commandNumber (getD t n 0) → (r : Header) → r ≡ leafAnswer s c h st → Reads t names s h n st r
+  leaf′ q c ec r er = rw (er, ec) (leaf (sym eb ∙ not-true b q))
+
+  module _ (q : not b ≡ false) (x : Turn) (ex : x ≡ turnOf s st) where
+    pub refused′ : (e : ErrorCode) → x ≡ turn.Refused e → Reads t names s h n st (header.Refused e)
+    refused′ e y = refused (sym eb ∙ not-false b q) (sym ex ∙ y)
+
+    module _ (y : x ≡ turn.Stop) (p : Pick) (z : Picks t n (unsaidIn t) p) where
+      pub nowhere′ : p ≡ pick.None → Reads t names s h n st undefined
+      nowhere′ e = nowhere (sym eb ∙ not-false b q) (sym ex ∙ y) (rw e at z)
+
+      pub ended′ : (k : ℕ) → p ≡ pick.Child k → (r : Header) → Reads t names s h k st r → Reads t names s h n st r
+      ended′ k e r o = ended (sym eb ∙ not-false b q) (sym ex ∙ y) (rw e at z) o
+
+    module _ (w : View) (at : Step) (y : x ≡ turn.Word w at) (v : List ℕ) (ev : v ≡ partOf s w) (p : Pick) (z : Picks t n (spokenBy t names v) p) where
+      pub said′ : (k : ℕ) → p ≡ pick.Child k → (m : Step) → m ≡ step s (at .state) → (r : Header) → Reads t names s n k m r → Reads t names s h n st r
+      said′ k e m em r o = said (sym eb ∙ not-false b q) (sym ex ∙ y) (rw (e, ev) at z) (rw em at o)
+
+      module _ (e : p ≡ pick.None) (d : Pick) (u : Picks t n (unsaidIn t) d) where
+        pub unknown′ : d ≡ pick.None → Reads t names s h n st undefined
+        unknown′ f = unknown (sym eb ∙ not-false b q) (sym ex ∙ y) (rw (e, ev) at z) (rw f at u)
+
+        pub unsaid′ : (k : ℕ) → d ≡ pick.Child k → (r : Header) → Reads t names s n k at r → Reads t names s h n st r
+        unsaid′ k f r o = unsaid (sym eb ∙ not-false b q) (sym ex ∙ y) (rw (e, ev) at z) (rw f at u) o
+
+pub ruleset descent-laws = (needs, leaf′, refused′, nowhere′, ended′, said′, unknown′, unsaid′)

@@ -1,0 +1,3 @@
+pub mod Route
+pub mod Header
+pub mod Alone

@@ -2,3 +2,8 @@
 pub mod Tokens
 pub mod Descents
 pub mod Entries
+pub mod Unique
+pub mod Outcomes
+pub mod Hearing
+pub mod Spoken
+pub mod Saying

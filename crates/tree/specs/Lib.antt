@@ -1,3 +1,4 @@
 pub mod Route
 pub mod Header
 pub mod Alone
+pub mod WellFormed

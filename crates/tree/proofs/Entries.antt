@@ -24,7 +24,7 @@ use Rattle.tokenizer.specs.Step.{ofMessage, step}
 use Rattle.tokenizer.specs.declared.State.{State}
 use Rattle.tokenizer.specs.declared.Step.{Step}
 use Rattle.tree.specs.Header.{aheadOf, keeping, Reads, Begins, no-branch, first-refused, no-header, no-question, from-root, common, from-branch}
-use Rattle.tree.specs.Alone.{aloneWith, Resolves, too-long, refused, found, ResolvesAlone, fault, sound}
+use Rattle.tree.specs.Alone.{aloneWith, closing, Resolves, too-long, one-header, ResolvesAlone, fault, sound}
 use Rattle.tree.specs.Alone as alone
 use Rattle.tree.specs.declared.Ahead.{Ahead}
 use Rattle.tree.specs.declared.Ahead.the-variants as ahead
@@ -90,17 +90,20 @@ module _ (t names : List ℕ) (b : ℕ) (s : List ℕ) (r : Bool) (e : r ≡ isB
     too-long′ h = too-long (sym e ∙ not-false r q) h
 
     module _ (h : length s ≤ 65535) (f : State) (ef : f ≡ ofMessage) (n : Step) (en : n ≡ step s f) (x : Header) (g : Begins t names s b n x) where
+      whole : Resolves t names b s (closing x)
+      whole = one-header (sym e ∙ not-false r q) h (rw (en, ef) at g)
+
       pub refused′ : (c : ErrorCode) → x ≡ header.Refused c → Resolves t names b s (resolved.Refused c)
-      refused′ c y = refused (sym e ∙ not-false r q) h (rw (y, en, ef) at g)
+      refused′ c y = rw y at whole
 
       pub found′ : (c kept : ℕ) (query : Bool) (st : Step) → x ≡ header.Found c query kept st → (a : Resolved) → a ≡ aloneWith c query kept (st .answer) → Resolves t names b s a
-      found′ c kept query st y a ea = rw ea (found (sym e ∙ not-false r q) h (rw (y, en, ef) at g))
+      found′ c kept query st y a ea = rw ea (rw y at whole)
 
 pub ruleset accepted-laws = (needs, no-start′, too-long′, refused′, found′)
 
 -- with the table's check
 
-abbrev isAccepted : Checked → Bool
+abbrev pub isAccepted : Checked → Bool
 isAccepted checked.Accepted = true
 isAccepted (checked.Fault e) = false
 

@@ -7,3 +7,5 @@ pub mod Outcomes
 pub mod Hearing
 pub mod Spoken
 pub mod Saying
+pub mod Once
+pub mod Claims

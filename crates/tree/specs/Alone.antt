@@ -12,8 +12,8 @@ use Rattle.table.specs.declared.Checked.the-variants as checked
 use Rattle.tokenizer.specs.Step.{ofMessage, step}
 use Rattle.tokenizer.specs.declared.Answer.{Answer}
 use Rattle.tokenizer.specs.declared.Answer.the-variants as answer
-use Rattle.tokenizer.specs.declared.Step.{Step}
 use Rattle.tree.specs.Header.{Begins}
+use Rattle.tree.specs.declared.Header.{Header}
 use Rattle.tree.specs.declared.Header.the-variants as header
 use Rattle.tree.specs.declared.Resolved.{Resolved}
 use Rattle.tree.specs.declared.Resolved.the-variants as resolved
@@ -24,19 +24,19 @@ aloneWith c query kept answer.End = resolved.Command c query kept
 aloneWith c query kept (answer.Token x) = resolved.Refused refusal.SyntaxError
 aloneWith c query kept (answer.Refused e) = resolved.Refused e
 
+-- the answer for a text whose header was answered so
+abbrev pub closing : Header → Resolved
+closing (header.Found c query kept st) = aloneWith c query kept (st .answer)
+closing (header.Refused e) = resolved.Refused e
+
 -- The answer for the text s from the branch b of a table that is not checked.
 pub data Resolves (t names : List ℕ) (b : ℕ) (s : List ℕ) : Resolved → Type 0 where
   -- 7
   no-branch : branch t b ≡ false → Resolves t names b s (resolved.Refused refusal.StartIsNoBranch)
   -- 9
   too-long : branch t b ≡ true → 65535 < length s → Resolves t names b s (resolved.Refused refusal.MessageTooLong)
-  -- the header is refused
-  refused : {e : ErrorCode} → branch t b ≡ true → length s ≤ 65535 → Begins t names s b (step s ofMessage) (header.Refused e)
-      → Resolves t names b s (resolved.Refused e)
-  -- the header has a command; then nothing follows
-  found : {c kept : ℕ} {query : Bool} {st : Step} → branch t b ≡ true → length s ≤ 65535
-      → Begins t names s b (step s ofMessage) (header.Found c query kept st)
-      → Resolves t names b s (aloneWith c query kept (st .answer))
+  -- the text
+  one-header : {r : Header} → branch t b ≡ true → length s ≤ 65535 → Begins t names s b (step s ofMessage) r → Resolves t names b s (closing r)
 
 -- The answer where the table is checked first: its smallest fault, 1 to 6, before all else.
 pub data ResolvesAlone (t names : List ℕ) (b : ℕ) (s : List ℕ) : Resolved → Type 0 where

@@ -2,3 +2,4 @@ pub mod Route
 pub mod Header
 pub mod Alone
 pub mod WellFormed
+pub mod Claims

@@ -1,0 +1,176 @@
+-- The claims.
+use Prim.Native.Nat.{ℕ}
+use mathlib.Core.Path.{_≡_, refl, sym, ap, _∙_}
+use mathlib.Core.Logic.{_⊎_, inl, inr}
+use mathlib.Core.List.{List, [], _∷_}
+use mathlib.Core.Bool.{Bool, true, false, cond, _&&_, and-false, false≢true}
+use native.Mathlib.Omega.{arith}
+use lib.Dec.{eqb, ltb}
+use lib.ListN.{length, getD}
+use borrow.Author.Tests.{eqb-true}
+use Rattle.error.specs.declared.ErrorCode.the-variants.{UndefinedHeader}
+use Rattle.kind.specs.Class.{isCapital, isSmall, isLetter}
+use Rattle.kind.proofs.Tests.{clash, and-right}
+use Rattle.util.specs.Run.{standsAt}
+use Rattle.node.specs.Word.{commandNumber}
+use Rattle.node.specs.Tree.{branch}
+use Rattle.table.specs.Fault.{Accepted}
+use Rattle.table.specs.Claims.{Tree}
+use Rattle.table.proofs.Claims as table
+use Rattle.token.specs.View.{partOf}
+use Rattle.token.specs.declared.Token.{Token}
+use Rattle.token.specs.declared.Token.the-variants.{HeaderMnemonicSeparator}
+use Rattle.tokenizer.specs.Step.{ofMessage, step}
+use Rattle.tokenizer.specs.declared.Answer.the-variants as answer
+use Rattle.tokenizer.specs.declared.Step.{Step}
+use Rattle.tree.specs.Route.{Route, Leads}
+use Rattle.tree.specs.Header.{isCommon, Begins}
+use Rattle.tree.specs.Alone.{aloneWith, closing, Resolves, no-branch, too-long, one-header, ResolvesAlone, fault, sound}
+use Rattle.tree.specs.WellFormed.{Mnemonic, Joined, last, before, WellFormed, Tokens, next, Shown}
+use Rattle.tree.specs.Claims.{Answers, Claims}
+use Rattle.tree.specs.declared.Ahead.the-variants as ahead
+use Rattle.tree.specs.declared.Header.{Header}
+use Rattle.tree.specs.declared.Resolved.{Resolved}
+use Rattle.tree.specs.declared.Resolved.the-variants.{Command, Refused}
+use Rattle.tree.proofs.Unique.{unique}
+use Rattle.tree.proofs.Outcomes.{Outcome, routed, lost}
+use Rattle.tree.proofs.Hearing.{heard}
+use Rattle.tree.proofs.Spoken.{reads}
+use Rattle.tree.proofs.Saying.{token-ahead, Said, from-there, said}
+use Rattle.tree.proofs.Once.{Began, began-at, at-root, starred, plain, one-begins, one-resolves, past-check, unchecked, one-alone}
+
+-- the first of some words, and another where there is none
+abbrev firstOf : List ℕ → List (List ℕ) → List ℕ
+firstOf w [] = w
+firstOf w (v ∷ words) = v
+
+-- the first of the mnemonics has no star
+first-mnemonic : {first : List ℕ} {words rest : List (List ℕ)} {text : List ℕ} → Joined words text → words ≡ first ∷ rest → Mnemonic first
+first-mnemonic {first} (last m) e = rw (ap (firstOf first) e) at m
+first-mnemonic {first} (before m j) e = rw (ap (firstOf first) e) at m
+
+no-star : (w : List ℕ) → Mnemonic w → standsAt 42 w 0 ≡ false
+unfolding standsAt isLetter isCapital isSmall
+no-star w m = go (eqb (getD w 0 0) 42) refl
+  where
+    go : (c : Bool) → eqb (getD w 0 0) 42 ≡ c → (ltb 0 (length w) && eqb (getD w 0 0) 42) ≡ false
+    go true e = let z = eqb-true (getD w 0 0) 42 e in absurd (false≢true (rw z at (m .begins)))
+    go false e = rw e (and-false (ltb 0 (length w)))
+
+-- a well-formed header, read from its branch
+module _ (t names : List ℕ) (b : ℕ) (s : List ℕ) (words : List (List ℕ)) (query : Bool) (ok : Tree t names) (m : branch t b ≡ true) where
+  -- what the header is answered, and what the whole text is
+  record Heard (start : ℕ) (r : Header) : Type 0 where
+    behind : Step
+    over : behind .answer ≡ answer.End
+    outcome : Outcome t names query behind start start words r
+
+  -- from the branch itself
+  heard-plain : WellFormed s false words query → {r : Header} → Begins t names s b (step s ofMessage) r → Heard b r
+  heard-plain f g = from-here (began-at m (x .there) g)
+    where
+      x : Said s words query ofMessage
+      x = let z = reads s false words query f in said (z .2) (z .1)
+
+      plain-word : isCommon s (x .view) ≡ false
+      plain-word = rw (x .shows) (no-star (x .first) (first-mnemonic (f .joins) (x .parts)))
+
+      from-here : {r : Header} → Began t names s b (step s ofMessage) (ahead.Word (x .view)) r → Heard b r
+      from-here (starred c y) = clash c plain-word
+      from-here (plain c y) = record { behind = x .behind; over = x .over; outcome = heard ok (from-there x) y }
+
+  -- from the root, behind a colon
+  from-colon : {r : Header} → Said s words query ((step s ofMessage) .state) → Began t names s b (step s ofMessage) ahead.Colon r → Heard 0 r
+  from-colon x (at-root y) = record { behind = x .behind; over = x .over; outcome = heard ok (from-there x) y }
+
+  by-tokens : {tokens : List Token} {r : Header} → Tokens s ofMessage (HeaderMnemonicSeparator ∷ tokens) → Shown s words query tokens
+      → Begins t names s b (step s ofMessage) r → Heard 0 r
+  by-tokens (next e y) o g = from-colon (said o y) (began-at m (token-ahead e) g)
+
+  heard-so : (rooted : Bool) → WellFormed s rooted words query → {r : Header} → Begins t names s b (step s ofMessage) r → Heard (cond rooted 0 b) r
+  heard-so false f g = heard-plain f g
+  heard-so true f g = let z = reads s true words query f in by-tokens (z .1) (z .2) g
+
+-- the answer to the whole text, told by routes
+data Final (t names : List ℕ) (b : ℕ) (words : List (List ℕ)) (query : Bool) : Resolved → Type 0 where
+  leads : {c kept : ℕ} → Leads t names b words c kept → Final t names b words query (Command c query kept)
+  fails : ((c kept : ℕ) → Leads t names b words c kept → ⊥) → Final t names b words query (Refused UndefinedHeader)
+
+module _ (t names : List ℕ) (words : List (List ℕ)) (query : Bool) where
+  final-of : {b : ℕ} {r : Header} {behind : Step} → behind .answer ≡ answer.End → Outcome t names query behind b b words r → Final t names b words query (closing r)
+  final-of {behind = behind} e (routed {nodes} {leaf} {kept} x) =
+      rw (ap (aloneWith (commandNumber (getD t leaf 0)) query kept) e)
+      (leads (record { nodes = nodes; leaf = leaf; route = x; command = refl }))
+  final-of e (lost l) = fails (λ c kept x. l (x .nodes) (x .leaf) kept (x .route))
+
+  module _ (b : ℕ) (s : List ℕ) (ok : Tree t names) (m : branch t b ≡ true) (rooted : Bool) (f : WellFormed s rooted words query) where
+    final : {r : Resolved} → Resolves t names b s r → Final t names (cond rooted 0 b) words query r
+    final (no-branch l) = clash m l
+    final (too-long l h) = absurd (omega (arith, f .fits))
+    final (one-header l h g) = let z = heard-so t names b s words query ok m rooted f g in final-of (z .over) (z .outcome)
+
+-- what tells the answers apart
+
+abbrev isCommand : Resolved → Bool
+isCommand (Command c q kept) = true
+isCommand (Refused e) = false
+
+abbrev commandIn : Resolved → ℕ
+commandIn (Command c q kept) = c
+commandIn (Refused e) = 0
+
+abbrev keptIn : Resolved → ℕ
+keptIn (Command c q kept) = kept
+keptIn (Refused e) = 0
+
+module _ (t names : List ℕ) (b : ℕ) (words : List (List ℕ)) (query : Bool) (ok : Tree t names) where
+  one-lead : {c c′ kept kept′ : ℕ} → Leads t names b words c kept → Leads t names b words c′ kept′ → (c ≡ c′) × (kept ≡ kept′)
+  one-lead x y =
+      let z = unique t names ok (x .route) (y .route) in
+      (sym (x .command) ∙ ap (λ (k : ℕ). commandNumber (getD t k 0)) (z .1) ∙ y .command, z .2)
+
+  is-lead : {r : Resolved} → Final t names b words query r → (c kept : ℕ) → r ≡ Command c query kept → Leads t names b words c kept
+  is-lead (leads x) c kept e = rw (ap commandIn e, ap keptIn e) at x
+  is-lead (fails n) c kept e = absurd (false≢true (ap isCommand e))
+
+  gets : {r : Resolved} → Final t names b words query r → (c kept : ℕ) → Leads t names b words c kept → r ≡ Command c query kept
+  gets (leads x) c kept y = let z = one-lead x y in rw (z .0, z .1)
+  gets (fails n) c kept y = absurd (n c kept y)
+
+  no-lead : {r : Resolved} → Final t names b words query r → r ≡ Refused UndefinedHeader → (c kept : ℕ) → Leads t names b words c kept → ⊥
+  no-lead (leads x) e = absurd (false≢true (sym (ap isCommand e)))
+  no-lead (fails n) e = n
+
+  is-undefined : {r : Resolved} → Final t names b words query r → ((c kept : ℕ) → Leads t names b words c kept → ⊥) → r ≡ Refused UndefinedHeader
+  is-undefined (leads {c} {kept} x) n = absurd (n c kept x)
+  is-undefined (fails _) n = refl
+
+  one-of : {r : Resolved} → Final t names b words query r → ((c : ℕ) × (kept : ℕ) × (r ≡ Command c query kept)) ⊎ (r ≡ Refused UndefinedHeader)
+  one-of (leads {c} {kept} x) = inl (c, kept, refl)
+  one-of (fails n) = inr refl
+
+  answers : {r : Resolved} → Final t names b words query r → Answers t names b words query r
+  answers x =
+      record {
+        command = λ c kept. (is-lead x c kept, gets x c kept);
+        one-route = λ nodes nodes′ leaf leaf′ kept kept′ y z. unique t names ok y z;
+        undefined = (no-lead x, is-undefined x);
+        either = one-of x;
+      }
+
+demand : (t names : List ℕ) (b : ℕ) (s : List ℕ) (rooted : Bool) (words : List (List ℕ)) (query : Bool) (r : Resolved)
+    → Accepted t names → branch t b ≡ true → WellFormed s rooted words query → ResolvesAlone t names b s r → Answers t names (cond rooted 0 b) words query r
+demand t names b s rooted words query r a m f x =
+    let ok = table.claims .accepted t names a in
+    answers t names (cond rooted 0 b) words query ok (final t names words query b s ok m rooted f (past-check a x))
+
+pub claims : Claims
+claims =
+    record {
+      demand = demand;
+      reads = reads;
+      unchecked = λ t names b s. unchecked;
+      one-alone = λ t names b s. one-alone;
+      one-unchecked = λ t names b s. one-resolves;
+      one-header = λ t names s b st. one-begins;
+    }

@@ -1,0 +1,48 @@
+-- What is proved of resolution, besides the promises of the functions. The proofs are in proofs/Claims.
+use Prim.Native.Nat.{ℕ}
+use mathlib.Core.Path.{_≡_}
+use mathlib.Core.Logic.{_⊎_, _↔_}
+use mathlib.Core.List.{List, _∷_}
+use mathlib.Core.Bool.{Bool, true, cond}
+use Rattle.error.specs.declared.ErrorCode.the-variants.{UndefinedHeader}
+use Rattle.node.specs.Tree.{branch}
+use Rattle.table.specs.Fault.{Accepted}
+use Rattle.token.specs.declared.Token.{Token}
+use Rattle.token.specs.declared.Token.the-variants.{HeaderMnemonicSeparator}
+use Rattle.tokenizer.specs.Step.{ofMessage}
+use Rattle.tokenizer.specs.declared.Step.{Step}
+use Rattle.tree.specs.Route.{Route, Leads}
+use Rattle.tree.specs.Header.{Begins}
+use Rattle.tree.specs.Alone.{Resolves, ResolvesAlone}
+use Rattle.tree.specs.WellFormed.{WellFormed, Tokens, Shown}
+use Rattle.tree.specs.declared.Header.{Header}
+use Rattle.tree.specs.declared.Resolved.{Resolved}
+use Rattle.tree.specs.declared.Resolved.the-variants.{Command, Refused}
+
+-- The answer r to a header of these words, in the form of a query or not, from the branch b.
+pub record Answers (t names : List ℕ) (b : ℕ) (words : List (List ℕ)) (query : Bool) (r : Resolved) : Type 0 where
+  -- it gets a command exactly when some route spells it, and the command and the branch kept are that route's
+  pub command : (c kept : ℕ) → (r ≡ Command c query kept) ↔ Leads t names b words c kept
+  -- there is one such route only
+  pub one-route : (nodes nodes′ : List ℕ) (leaf leaf′ kept kept′ : ℕ) → Route t names b b words nodes leaf kept → Route t names b b words nodes′ leaf′ kept′
+      → (nodes ≡ nodes′) × (leaf ≡ leaf′) × (kept ≡ kept′)
+  -- it is -113 exactly when there is no route
+  pub undefined : (r ≡ Refused UndefinedHeader) ↔ ((c kept : ℕ) → Leads t names b words c kept → ⊥)
+  -- and it is one or the other
+  pub either : ((c : ℕ) × (kept : ℕ) × (r ≡ Command c query kept)) ⊎ (r ≡ Refused UndefinedHeader)
+
+pub record Claims : Type 0 where
+  -- Take a table that the check accepts, any branch of it as the start, and a well-formed header of one or more mnemonics without star
+  -- within the limits: its answer is so. A leading colon starts at the root.
+  pub demand : (t names : List ℕ) (b : ℕ) (s : List ℕ) (rooted : Bool) (words : List (List ℕ)) (query : Bool) (r : Resolved)
+      → Accepted t names → branch t b ≡ true → WellFormed s rooted words query → ResolvesAlone t names b s r
+      → Answers t names (cond rooted 0 b) words query r
+  -- the token step reads a well-formed header as its mnemonics
+  pub reads : (s : List ℕ) (rooted : Bool) (words : List (List ℕ)) (query : Bool) → WellFormed s rooted words query
+      → (tokens : List Token) × Tokens s ofMessage (cond rooted (HeaderMnemonicSeparator ∷ tokens) tokens) × Shown s words query tokens
+  -- without the check the answer is the same in an accepted table
+  pub unchecked : (t names : List ℕ) (b : ℕ) (s : List ℕ) (r q : Resolved) → Accepted t names → ResolvesAlone t names b s r → Resolves t names b s q → r ≡ q
+  -- there is one answer only, in every table and to every text
+  pub one-alone : (t names : List ℕ) (b : ℕ) (s : List ℕ) (r q : Resolved) → ResolvesAlone t names b s r → ResolvesAlone t names b s q → r ≡ q
+  pub one-unchecked : (t names : List ℕ) (b : ℕ) (s : List ℕ) (r q : Resolved) → Resolves t names b s r → Resolves t names b s q → r ≡ q
+  pub one-header : (t names s : List ℕ) (b : ℕ) (st : Step) (r q : Header) → Begins t names s b st r → Begins t names s b st q → r ≡ q

@@ -1,5 +1,4 @@
 // The children of a branch: the one that a word spells, and the default one. `exec` of tree/mod.rs of the original looks for these.
-ghost use mathlib.Core.Path.{_≡_};
 ghost use Rattle.branch.specs.Children.{spokenBy, unsaidIn, Covers, Picks};
 
 // The child that was looked for.

@@ -10,22 +10,21 @@ use lib.ListN.{length, getD}
 use borrow.Author.Tests.{eqb-true}
 use Rattle.error.specs.declared.ErrorCode.the-variants.{UndefinedHeader}
 use Rattle.kind.specs.Class.{isCapital, isSmall, isLetter}
-use Rattle.kind.proofs.Tests.{clash, and-right}
+use Rattle.kind.proofs.Tests.{clash}
 use Rattle.util.specs.Run.{standsAt}
 use Rattle.node.specs.Word.{commandNumber}
 use Rattle.node.specs.Tree.{branch}
 use Rattle.table.specs.Fault.{Accepted}
 use Rattle.table.specs.Claims.{Tree}
 use Rattle.table.proofs.Claims as table
-use Rattle.token.specs.View.{partOf}
 use Rattle.token.specs.declared.Token.{Token}
 use Rattle.token.specs.declared.Token.the-variants.{HeaderMnemonicSeparator}
 use Rattle.tokenizer.specs.Step.{ofMessage, step}
 use Rattle.tokenizer.specs.declared.Answer.the-variants as answer
 use Rattle.tokenizer.specs.declared.Step.{Step}
-use Rattle.tree.specs.Route.{Route, Leads}
+use Rattle.tree.specs.Route.{Leads}
 use Rattle.tree.specs.Header.{isCommon, Begins}
-use Rattle.tree.specs.Alone.{aloneWith, closing, Resolves, no-branch, too-long, one-header, ResolvesAlone, fault, sound}
+use Rattle.tree.specs.Alone.{aloneWith, closing, Resolves, no-branch, too-long, one-header, ResolvesAlone}
 use Rattle.tree.specs.WellFormed.{Mnemonic, Joined, last, before, WellFormed, Tokens, next, Shown}
 use Rattle.tree.specs.Claims.{Answers, Claims}
 use Rattle.tree.specs.declared.Ahead.the-variants as ahead

@@ -1,8 +1,8 @@
 -- The tokens of a well-formed header are heard as its words.
 use Prim.Native.Nat.{ℕ}
-use mathlib.Core.Path.{_≡_, refl, sym, ap, _∙_}
+use mathlib.Core.Path.{_≡_, refl, ap, _∙_}
 use mathlib.Core.List.{List, [], _∷_}
-use mathlib.Core.Bool.{Bool, true, false}
+use mathlib.Core.Bool.{Bool}
 use Rattle.token.specs.View.{partOf}
 use Rattle.token.specs.declared.View.{View}
 use Rattle.token.specs.declared.Token.{Token}
@@ -13,9 +13,7 @@ use Rattle.tokenizer.specs.declared.State.{State}
 use Rattle.tokenizer.specs.declared.Step.{Step}
 use Rattle.tree.specs.Header.{tokenAhead, aheadOf, wordAhead, behindColon, turnAhead, turnOf}
 use Rattle.tree.specs.WellFormed.{Tokens, end, next, Shown, event, query, then}
-use Rattle.tree.specs.declared.Ahead.{Ahead}
 use Rattle.tree.specs.declared.Ahead.the-variants as ahead
-use Rattle.tree.specs.declared.Turn.the-variants as turn
 use Rattle.tree.proofs.Hearing.{Hears, stop, asked, word}
 
 pub token-ahead : {a : Answer} {t : Token} → a ≡ answer.Token t → aheadOf a ≡ tokenAhead t

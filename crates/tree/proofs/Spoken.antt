@@ -5,23 +5,21 @@ use mathlib.Core.Logic.{_⊎_, inl, inr, ⊎-elim}
 use mathlib.Core.List.{List, [], _∷_, _++_, append-assoc}
 use mathlib.Core.Bool.{Bool, true, false, cond, not, _||_, false≢true}
 use native.Mathlib.Omega.{arith}
-use native.Mathlib.Nat.{add-zero}
-use lib.Dec.{T, eqb, leb}
+use lib.Dec.{eqb, leb}
 use lib.ListN.{length, getD, drop, length-append}
 use lib.Seq.{take-append-seam}
 use borrow.Author.Tests.{eqb-true, le-leb, leb-true}
 use Rattle.kind.specs.Text.{ascii}
 use Rattle.kind.specs.Class.{isWhiteSpace, isCapital, isSmall, isDigit, isLetter, inMnemonic, isSign, isQuote, isAscii}
 use Rattle.kind.specs.Kind.{kindOf}
-use Rattle.kind.proofs.Bytes.{agree, agrees}
-use Rattle.kind.proofs.Tests.{either, or-left, or-right, and-right}
-use Rattle.util.specs.Run.{runEnd, every}
+use Rattle.kind.proofs.Bytes.{agrees}
+use Rattle.kind.proofs.Tests.{either, or-right, and-right}
 use Rattle.token.specs.View.{viewOf, partOf}
 use Rattle.token.specs.declared.View.{View}
 use Rattle.token.specs.declared.Token.{Token}
 use Rattle.token.specs.declared.Token.the-variants.{HeaderMnemonicSeparator, HeaderQuerySuffix, ProgramMnemonic}
 use Rattle.item.specs.Follow.{token}
-use Rattle.item.specs.Word.{starEnd, mnemonic}
+use Rattle.item.specs.Word.{mnemonic}
 use Rattle.item.proofs.Words.{star-none′}
 use Rattle.item.proofs.Seams.{here-get, here-inside, here-next, here-run, here-length}
 use Rattle.tokenizer.specs.Step.{stateOf, ofMessage, taken, readAs, followsColon, colonBefore, followsQuery, questionBefore, wordAt, step}

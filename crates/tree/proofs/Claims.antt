@@ -19,24 +19,26 @@ use Rattle.table.specs.Claims.{Tree}
 use Rattle.table.proofs.Claims as table
 use Rattle.token.specs.declared.Token.{Token}
 use Rattle.token.specs.declared.Token.the-variants.{HeaderMnemonicSeparator}
-use Rattle.tokenizer.specs.Step.{ofMessage, step}
-use Rattle.tokenizer.specs.declared.Answer.the-variants as answer
-use Rattle.tokenizer.specs.declared.Step.{Step}
+use Rattle.tokenizer.specs.Step.{ofMessage}
+use Rattle.tokenizer.specs.declared.State.{State}
+use Rattle.header.specs.Seen.{seenAt}
+use Rattle.header.specs.Header.{isCommon, Begins}
+use Rattle.header.specs.declared.Stop.the-variants as end
+use Rattle.header.specs.declared.Ahead.the-variants as ahead
+use Rattle.header.specs.declared.Header.{Header}
+use Rattle.header.proofs.Once.{Began, began-at, at-root, starred, plain}
 use Rattle.tree.specs.Route.{Leads}
-use Rattle.tree.specs.Header.{isCommon, Begins}
-use Rattle.tree.specs.Alone.{aloneWith, closing, Resolves, no-branch, too-long, one-header, ResolvesAlone}
+use Rattle.tree.specs.Alone.{closing, Resolves, no-branch, too-long, one-header, ResolvesAlone}
 use Rattle.tree.specs.WellFormed.{Mnemonic, Joined, last, before, WellFormed, Tokens, next, Shown}
 use Rattle.tree.specs.Claims.{Answers, Claims}
-use Rattle.tree.specs.declared.Ahead.the-variants as ahead
-use Rattle.tree.specs.declared.Header.{Header}
 use Rattle.tree.specs.declared.Resolved.{Resolved}
 use Rattle.tree.specs.declared.Resolved.the-variants.{Command, Refused}
 use Rattle.tree.proofs.Unique.{unique}
 use Rattle.tree.proofs.Outcomes.{Outcome, routed, lost}
 use Rattle.tree.proofs.Hearing.{heard}
 use Rattle.tree.proofs.Spoken.{reads}
-use Rattle.tree.proofs.Saying.{token-ahead, Said, from-there, said}
-use Rattle.tree.proofs.Once.{Began, began-at, at-root, starred, plain, one-begins, one-resolves, past-check, unchecked, one-alone}
+use Rattle.tree.proofs.Saying.{token-seen, Said, from-there, said}
+use Rattle.tree.proofs.Once.{one-resolves, past-check, unchecked, one-alone}
 
 -- the first of some words, and another where there is none
 abbrev firstOf : List ℕ → List (List ℕ) → List ℕ
@@ -60,12 +62,11 @@ no-star w m = go (eqb (getD w 0 0) 42) refl
 module _ (t names : List ℕ) (b : ℕ) (s : List ℕ) (words : List (List ℕ)) (query : Bool) (ok : Tree t names) (m : branch t b ≡ true) where
   -- what the header is answered, and what the whole text is
   record Heard (start : ℕ) (r : Header) : Type 0 where
-    behind : Step
-    over : behind .answer ≡ answer.End
-    outcome : Outcome t names query behind start start words r
+    last : State
+    outcome : Outcome t names query end.Text last start start words r
 
   -- from the branch itself
-  heard-plain : WellFormed s false words query → {r : Header} → Begins t names s b (step s ofMessage) r → Heard b r
+  heard-plain : WellFormed s false words query → {r : Header} → Begins t names s b (seenAt s ofMessage) r → Heard b r
   heard-plain f g = from-here (began-at m (x .there) g)
     where
       x : Said s words query ofMessage
@@ -74,19 +75,20 @@ module _ (t names : List ℕ) (b : ℕ) (s : List ℕ) (words : List (List ℕ))
       plain-word : isCommon s (x .view) ≡ false
       plain-word = rw (x .shows) (no-star (x .first) (first-mnemonic (f .joins) (x .parts)))
 
-      from-here : {r : Header} → Began t names s b (step s ofMessage) (ahead.Word (x .view)) r → Heard b r
+      from-here : {r : Header} → Began t names s b (seenAt s ofMessage) (ahead.Word (x .view)) r → Heard b r
       from-here (starred c y) = clash c plain-word
-      from-here (plain c y) = record { behind = x .behind; over = x .over; outcome = heard ok (from-there x) y }
+      from-here (plain c y) = record { last = x .last; outcome = heard ok (from-there x) y }
 
   -- from the root, behind a colon
-  from-colon : {r : Header} → Said s words query ((step s ofMessage) .state) → Began t names s b (step s ofMessage) ahead.Colon r → Heard 0 r
-  from-colon x (at-root y) = record { behind = x .behind; over = x .over; outcome = heard ok (from-there x) y }
+  from-colon : {r : Header} → Said s words query ((seenAt s ofMessage) .state) → Began t names s b (seenAt s ofMessage) ahead.Colon r → Heard 0 r
+  from-colon x (at-root y) = record { last = x .last; outcome = heard ok (from-there x) y }
 
   by-tokens : {tokens : List Token} {r : Header} → Tokens s ofMessage (HeaderMnemonicSeparator ∷ tokens) → Shown s words query tokens
-      → Begins t names s b (step s ofMessage) r → Heard 0 r
-  by-tokens (next e y) o g = from-colon (said o y) (began-at m (token-ahead e) g)
+      → Begins t names s b (seenAt s ofMessage) r → Heard 0 r
+  unfolding seenAt
+  by-tokens (next e y) o g = from-colon (said o y) (began-at m (token-seen s ofMessage e) g)
 
-  heard-so : (rooted : Bool) → WellFormed s rooted words query → {r : Header} → Begins t names s b (step s ofMessage) r → Heard (cond rooted 0 b) r
+  heard-so : (rooted : Bool) → WellFormed s rooted words query → {r : Header} → Begins t names s b (seenAt s ofMessage) r → Heard (cond rooted 0 b) r
   heard-so false f g = heard-plain f g
   heard-so true f g = let z = reads s true words query f in by-tokens (z .1) (z .2) g
 
@@ -96,17 +98,15 @@ data Final (t names : List ℕ) (b : ℕ) (words : List (List ℕ)) (query : Boo
   fails : ((c kept : ℕ) → Leads t names b words c kept → ⊥) → Final t names b words query (Refused UndefinedHeader)
 
 module _ (t names : List ℕ) (words : List (List ℕ)) (query : Bool) where
-  final-of : {b : ℕ} {r : Header} {behind : Step} → behind .answer ≡ answer.End → Outcome t names query behind b b words r → Final t names b words query (closing r)
-  final-of {behind = behind} e (routed {nodes} {leaf} {kept} x) =
-      rw (ap (aloneWith (commandNumber (getD t leaf 0)) query kept) e)
-      (leads (record { nodes = nodes; leaf = leaf; route = x; command = refl }))
-  final-of e (lost l) = fails (λ c kept x. l (x .nodes) (x .leaf) kept (x .route))
+  final-of : {b : ℕ} {r : Header} {st : State} → Outcome t names query end.Text st b b words r → Final t names b words query (closing r)
+  final-of (routed {nodes} {leaf} {kept} x) = leads (record { nodes = nodes; leaf = leaf; route = x; command = refl })
+  final-of (lost l) = fails (λ c kept x. l (x .nodes) (x .leaf) kept (x .route))
 
   module _ (b : ℕ) (s : List ℕ) (ok : Tree t names) (m : branch t b ≡ true) (rooted : Bool) (f : WellFormed s rooted words query) where
     final : {r : Resolved} → Resolves t names b s r → Final t names (cond rooted 0 b) words query r
     final (no-branch l) = clash m l
     final (too-long l h) = absurd (omega (arith, f .fits))
-    final (one-header l h g) = let z = heard-so t names b s words query ok m rooted f g in final-of (z .over) (z .outcome)
+    final (one-header l h g) = let z = heard-so t names b s words query ok m rooted f g in final-of (z .outcome)
 
 -- what tells the answers apart
 
@@ -171,5 +171,4 @@ claims =
       unchecked = λ t names b s. unchecked;
       one-alone = λ t names b s. one-alone;
       one-unchecked = λ t names b s. one-resolves;
-      one-header = λ t names s b st. one-begins;
     }

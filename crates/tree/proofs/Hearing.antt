@@ -15,23 +15,27 @@ use Rattle.branch.specs.Children.{Below, spokenBy, unsaidIn, Picks, first-one, 
 use Rattle.branch.specs.declared.Pick.the-variants as pick
 use Rattle.token.specs.View.{partOf, viewOf}
 use Rattle.token.specs.declared.View.{View}
-use Rattle.tokenizer.specs.Step.{step}
-use Rattle.tokenizer.specs.declared.Step.{Step}
-use Rattle.tree.specs.Header.{aheadOf, atLeaf, leafAnswer, wordAhead, behindColon, turnAhead, turnOf, undefined, Reads, leaf, refused, said, unsaid, unknown, ended, nowhere}
-use Rattle.tree.specs.declared.Ahead.{Ahead}
-use Rattle.tree.specs.declared.Ahead.the-variants as ahead
-use Rattle.tree.specs.declared.Turn.{Turn}
-use Rattle.tree.specs.declared.Turn.the-variants as turn
-use Rattle.tree.specs.declared.Header.{Header}
-use Rattle.tree.specs.declared.Header.the-variants as header
+use Rattle.tokenizer.specs.declared.State.{State}
+use Rattle.header.specs.Seen.{seenWith, seenAt}
+use Rattle.header.specs.Header.{behindQuery, queryAnswer, atLeaf, leafAnswer, atBranch, turnOf, undefined, Reads, leaf, refused, said, unsaid, unknown, ended, nowhere}
+use Rattle.header.specs.declared.Stop.{Stop}
+use Rattle.header.specs.declared.Ahead.{Ahead}
+use Rattle.header.specs.declared.Ahead.the-variants as ahead
+use Rattle.header.specs.declared.Seen.{Seen}
+use Rattle.header.specs.declared.Turn.{Turn}
+use Rattle.header.specs.declared.Turn.the-variants as turn
+use Rattle.header.specs.declared.Header.{Header}
+use Rattle.header.specs.declared.Header.the-variants as header
 use Rattle.tree.proofs.Outcomes.{Outcome, at-leaf, past-leaf, no-default, unspelled, by-default, by-word, at-end}
 
--- the words from a step on, each with a colon before it or not, and then the end of the header: its form, and the step behind it
-pub data Hears (s : List ℕ) (end : Step) : List (List ℕ) → Bool → Step → Type 0 where
-  stop : aheadOf (end .answer) ≡ ahead.Stop → Hears s end [] false end
-  asked : {st : Step} → aheadOf (st .answer) ≡ ahead.Query → step s (st .state) ≡ end → Hears s end [] true st
-  word : {st at : Step} {v : View} {w : List ℕ} {words : List (List ℕ)} {q : Bool} → turnOf s st ≡ turn.Word v at → partOf s v ≡ w
-      → Hears s end words q (step s (at .state)) → Hears s end (w ∷ words) q st
+-- the words from what is seen on, each with a colon before it or not, and then the end of the header: its form, what ends it, and the
+-- state behind that
+pub data Hears (s : List ℕ) (end : Stop) (st : State) : List (List ℕ) → Bool → Seen → Type 0 where
+  stop : {seen : Seen} → seen .ahead ≡ ahead.Stop end → seen .state ≡ st → Hears s end st [] false seen
+  asked : {seen : Seen} → seen .ahead ≡ ahead.Query → (seenAt s (seen .state)) .ahead ≡ ahead.Stop end → (seenAt s (seen .state)) .state ≡ st
+      → Hears s end st [] true seen
+  word : {seen : Seen} {v : View} {at : State} {w : List ℕ} {words : List (List ℕ)} {q : Bool} → turnOf s seen ≡ turn.Word v at → partOf s v ≡ w
+      → Hears s end st words q (seenAt s at) → Hears s end st (w ∷ words) q seen
 
 -- what tells the turns apart
 
@@ -45,74 +49,51 @@ isStop (turn.Word v at) = false
 isStop turn.Stop = true
 isStop (turn.Refused e) = false
 
-abbrev stepOf : Step → Turn → Step
-stepOf st (turn.Word v at) = at
-stepOf st turn.Stop = st
-stepOf st (turn.Refused e) = st
+abbrev stateIn : State → Turn → State
+stateIn st (turn.Word v at) = at
+stateIn st turn.Stop = st
+stateIn st (turn.Refused e) = st
 
 abbrev viewAt : Turn → View
 viewAt (turn.Word v at) = v
 viewAt turn.Stop = viewOf 0 0
 viewAt (turn.Refused e) = viewOf 0 0
 
-module _ (s : List ℕ) (st : Step) where
-  stops : aheadOf (st .answer) ≡ ahead.Stop → turnOf s st ≡ turn.Stop
+module _ (s : List ℕ) (seen : Seen) where
+  stops : {x : Stop} → seen .ahead ≡ ahead.Stop x → turnOf s seen ≡ turn.Stop
   unfolding turnOf
-  stops e = ap (turnAhead s st) e
+  stops e = ap (atBranch s (seen .state)) e
 
-  asks : aheadOf (st .answer) ≡ ahead.Query → turnOf s st ≡ turn.Stop
+  asks : seen .ahead ≡ ahead.Query → turnOf s seen ≡ turn.Stop
   unfolding turnOf
-  asks e = ap (turnAhead s st) e
+  asks e = ap (atBranch s (seen .state)) e
 
   -- a leaf's answer
-  leaf-stops : (c h : ℕ) → aheadOf (st .answer) ≡ ahead.Stop → leafAnswer s c h st ≡ header.Found c false h st
+  leaf-stops : (c h : ℕ) {x : Stop} {st : State} → seen .ahead ≡ ahead.Stop x → seen .state ≡ st → leafAnswer s c h seen ≡ header.Found c false h x st
   unfolding leafAnswer
-  leaf-stops c h e = ap (atLeaf s c h st) e
+  leaf-stops c h {x} e f = ap (atLeaf s c h (seen .state)) e ∙ ap (header.Found c false h x) f
 
-  leaf-asks : (c h : ℕ) → aheadOf (st .answer) ≡ ahead.Query → leafAnswer s c h st ≡ header.Found c true h (step s (st .state))
-  unfolding leafAnswer
-  leaf-asks c h e = ap (atLeaf s c h st) e
+  leaf-asks : (c h : ℕ) {x : Stop} {st : State} → seen .ahead ≡ ahead.Query → (seenAt s (seen .state)) .ahead ≡ ahead.Stop x → (seenAt s (seen .state)) .state ≡ st
+      → leafAnswer s c h seen ≡ header.Found c true h x st
+  unfolding leafAnswer queryAnswer
+  leaf-asks c h {x} e f g =
+      ap (atLeaf s c h (seen .state)) e ∙ ap (behindQuery c h ((seenAt s (seen .state)) .state)) f ∙ ap (header.Found c true h x) g
 
-  leaf-goes-on : (c h : ℕ) → isWord (turnOf s st) ≡ true → leafAnswer s c h st ≡ undefined
+  leaf-goes-on : (c h : ℕ) → isWord (turnOf s seen) ≡ true → leafAnswer s c h seen ≡ undefined
   unfolding turnOf leafAnswer
-  leaf-goes-on c h e = go (aheadOf (st .answer)) e
+  leaf-goes-on c h e = go (seen .ahead) e
     where
-      go : (x : Ahead) → isWord (turnAhead s st x) ≡ true → atLeaf s c h st x ≡ undefined
+      go : (x : Ahead) → isWord (atBranch s (seen .state) x) ≡ true → atLeaf s c h (seen .state) x ≡ undefined
       go (ahead.Word v) q = refl
       go ahead.Colon q = refl
       go ahead.Query q = absurd (false≢true q)
-      go ahead.Stop q = absurd (false≢true q)
+      go (ahead.Stop x) q = absurd (false≢true q)
       go (ahead.Refused c) q = absurd (false≢true q)
 
--- behind a colon
-word-again : (s : List ℕ) (st at : Step) (v : View) → behindColon st ≡ turn.Word v at → turnOf s at ≡ turn.Word v at
-unfolding behindColon turnOf
-word-again s st at v e = go (aheadOf (st .answer)) refl e
-  where
-    go : (x : Ahead) → aheadOf (st .answer) ≡ x → wordAhead st x ≡ turn.Word v at → turnAhead s at (aheadOf (at .answer)) ≡ turn.Word v at
-    go (ahead.Word u) p q =
-        let same : st ≡ at = ap (stepOf st) q in
-        let f : aheadOf (at .answer) ≡ ahead.Word v = rw (← same) (p ∙ ap ahead.Word (ap viewAt q)) in
-        ap (turnAhead s at) f
-    go ahead.Colon p q = absurd (false≢true (ap isWord q))
-    go ahead.Query p q = absurd (false≢true (ap isWord q))
-    go ahead.Stop p q = absurd (false≢true (ap isWord q))
-    go (ahead.Refused c) p q = absurd (false≢true (ap isWord q))
-
--- a word that was reached is read again where it stands
-pub stays : (s : List ℕ) (st at : Step) (v : View) → turnOf s st ≡ turn.Word v at → turnOf s at ≡ turn.Word v at
+-- a word that was reached is met again where it stands
+again : (s : List ℕ) (v : View) (st : State) → turnOf s (seenWith (ahead.Word v) st) ≡ turn.Word v st
 unfolding turnOf
-stays s st at v e = go (aheadOf (st .answer)) refl e
-  where
-    go : (x : Ahead) → aheadOf (st .answer) ≡ x → turnAhead s st x ≡ turn.Word v at → turnAhead s at (aheadOf (at .answer)) ≡ turn.Word v at
-    go (ahead.Word u) p q =
-        let same : st ≡ at = ap (stepOf st) q in
-        let f : aheadOf (at .answer) ≡ ahead.Word v = rw (← same) (p ∙ ap ahead.Word (ap viewAt q)) in
-        ap (turnAhead s at) f
-    go ahead.Colon p q = word-again s (step s (st .state)) at v q
-    go ahead.Query p q = absurd (false≢true (ap isWord q))
-    go ahead.Stop p q = absurd (false≢true (ap isWord q))
-    go (ahead.Refused c) p q = absurd (false≢true (ap isWord q))
+again s v st = refl
 
 -- what was picked
 
@@ -148,11 +129,11 @@ module _ (t names : List ℕ) (ok : Tree t names) where
   is-default x = picked x .1
 
 -- the same turn, told twice
-module _ {x : Turn} {at : Step} {v : View} (e : x ≡ turn.Word v at) where
-  same-step : {at′ : Step} {v′ : View} → x ≡ turn.Word v′ at′ → at′ ≡ at
-  same-step f = ap (stepOf at) (sym f ∙ e)
+module _ {x : Turn} {at : State} {v : View} (e : x ≡ turn.Word v at) where
+  same-state : {at′ : State} {v′ : View} → x ≡ turn.Word v′ at′ → at′ ≡ at
+  same-state f = ap (stateIn at) (sym f ∙ e)
 
-  same-view : {at′ : Step} {v′ : View} → x ≡ turn.Word v′ at′ → v′ ≡ v
+  same-view : {at′ : State} {v′ : View} → x ≡ turn.Word v′ at′ → v′ ≡ v
   same-view f = ap viewAt (sym f ∙ e)
 
   no-word : {A : Type 0} → x ≡ turn.Stop → A
@@ -165,37 +146,37 @@ stop-refused : {A : Type 0} {x : Turn} {e : ErrorCode} → x ≡ turn.Stop → x
 stop-refused e f = absurd (false≢true (ap isStop (sym f ∙ e)))
 
 -- what follows the word
-hears-on : {s : List ℕ} {end at at′ : Step} {words : List (List ℕ)} {q : Bool} → at′ ≡ at → Hears s end words q (step s (at′ .state))
-    → Hears s end words q (step s (at .state))
+hears-on : {s : List ℕ} {end : Stop} {st at at′ : State} {words : List (List ℕ)} {q : Bool} → at′ ≡ at → Hears s end st words q (seenAt s at′)
+    → Hears s end st words q (seenAt s at)
 hears-on e x = rw e at x
 
-pub heard : {t names s : List ℕ} {end : Step} {words : List (List ℕ)} {q : Bool} {h n : ℕ} {st : Step} {r : Header}
-    → Tree t names → Hears s end words q st → Reads t names s h n st r → Outcome t names q end h n words r
-heard {t} {names} {s} {end} {h = h} {n} ok (stop e) (leaf m) = rw (leaf-stops s end (commandNumber (getD t n 0)) h e) (at-leaf t names false end m)
-heard {t} {names} {s} {end} {h = h} {n} {st} ok (asked e f) (leaf m) = rw (leaf-asks s st (commandNumber (getD t n 0)) h e, f) (at-leaf t names true end m)
-heard {t} {names} {s} {end} {q = q} {h} {n} {st} ok (word e p x) (leaf m) = rw (leaf-goes-on s st (commandNumber (getD t n 0)) h (ap isWord e)) (past-leaf t names q end m)
-heard {s = s} {end} ok (stop e) (refused m f) = stop-refused (stops s end e) f
-heard {s = s} {st = st} ok (asked e g) (refused m f) = stop-refused (asks s st e) f
+pub heard : {t names s : List ℕ} {end : Stop} {st : State} {words : List (List ℕ)} {q : Bool} {h n : ℕ} {seen : Seen} {r : Header}
+    → Tree t names → Hears s end st words q seen → Reads t names s h n seen r → Outcome t names q end st h n words r
+heard {t} {names} {s} {end} {st} {h = h} {n} {seen} ok (stop e g) (leaf m) = rw (leaf-stops s seen (commandNumber (getD t n 0)) h e g) (at-leaf t names false end st m)
+heard {t} {names} {s} {end} {st} {h = h} {n} {seen} ok (asked e f g) (leaf m) = rw (leaf-asks s seen (commandNumber (getD t n 0)) h e f g) (at-leaf t names true end st m)
+heard {t} {names} {s} {end} {st} {q = q} {h} {n} {seen} ok (word e p x) (leaf m) = rw (leaf-goes-on s seen (commandNumber (getD t n 0)) h (ap isWord e)) (past-leaf t names q end st m)
+heard {s = s} {seen = seen} ok (stop e g) (refused m f) = stop-refused (stops s seen e) f
+heard {s = s} {seen = seen} ok (asked e g i) (refused m f) = stop-refused (asks s seen e) f
 heard ok (word e p x) (refused m f) = no-refusal e f
-heard {s = s} {end} ok (stop e) (said m f k r) = no-word f (stops s end e)
-heard {s = s} {st = st} ok (asked e g) (said m f k r) = no-word f (asks s st e)
-heard {t} {names} {s} {end} {q = q} ok (word {w = w} e p x) (said {w = u} m f k r) =
+heard {s = s} {seen = seen} ok (stop e g) (said m f k r) = no-word f (stops s seen e)
+heard {s = s} {seen = seen} ok (asked e g i) (said m f k r) = no-word f (asks s seen e)
+heard {t} {names} {s} {end} {st} {q = q} ok (word {w = w} e p x) (said {w = u} m f k r) =
     let c = picked k .0 .child in
     let z : partOf s u ≡ w = ap (partOf s) (same-view e f) ∙ p in
-    by-word t names q end ok c (rw z at (sym (says t names ok c (partOf s u)) ∙ picked k .1)) (heard ok (hears-on (same-step f e) x) r)
-heard {s = s} {end} ok (stop e) (unsaid m f k d r) = no-word f (stops s end e)
-heard {s = s} {st = st} ok (asked e g) (unsaid m f k d r) = no-word f (asks s st e)
-heard {t} {names} {s} {end} {q = q} {st = st} ok (word {w = w} e p x) (unsaid {at = at} {w = u} m f k d r) =
+    by-word t names q end st ok c (rw z at (sym (says t names ok c (partOf s u)) ∙ picked k .1)) (heard ok (hears-on (same-state f e) x) r)
+heard {s = s} {seen = seen} ok (stop e g) (unsaid m f k d r) = no-word f (stops s seen e)
+heard {s = s} {seen = seen} ok (asked e g i) (unsaid m f k d r) = no-word f (asks s seen e)
+heard {t} {names} {s} {end} {st} {q = q} ok (word {w = w} e p x) (unsaid {w = u} {st = at} m f k d r) =
     let z : partOf s u ≡ w = ap (partOf s) (same-view e f) ∙ p in
-    by-default t names q end (rw z at (never-said t names ok (partOf s u) k)) ok (picked d .0 .child) (is-default t names ok d) (heard ok (word (stays s st at u f) z (hears-on (same-step f e) x)) r)
-heard {s = s} {end} ok (stop e) (unknown m f k d) = no-word f (stops s end e)
-heard {s = s} {st = st} ok (asked e g) (unknown m f k d) = no-word f (asks s st e)
-heard {t} {names} {s} {end} {q = q} ok (word {w = w} e p x) (unknown {w = u} m f k d) =
+    by-default t names q end st (rw z at (never-said t names ok (partOf s u) k)) ok (picked d .0 .child) (is-default t names ok d) (heard ok (word (again s u at) z (hears-on (same-state f e) x)) r)
+heard {s = s} {seen = seen} ok (stop e g) (unknown m f k d) = no-word f (stops s seen e)
+heard {s = s} {seen = seen} ok (asked e g i) (unknown m f k d) = no-word f (asks s seen e)
+heard {t} {names} {s} {end} {st} {q = q} ok (word {w = w} e p x) (unknown {w = u} m f k d) =
     let z : partOf s u ≡ w = ap (partOf s) (same-view e f) ∙ p in
-    unspelled t names q end (rw z at (never-said t names ok (partOf s u) k)) (never-default t names ok d)
-heard {t} {names} {end = end} ok (stop e) (ended m f d r) = at-end t names false end ok (picked d .0 .child) (is-default t names ok d) (heard ok (stop e) r)
-heard {t} {names} {end = end} ok (asked e g) (ended m f d r) = at-end t names true end ok (picked d .0 .child) (is-default t names ok d) (heard ok (asked e g) r)
+    unspelled t names q end st (rw z at (never-said t names ok (partOf s u) k)) (never-default t names ok d)
+heard {t} {names} {end = end} {st} ok (stop e g) (ended m f d r) = at-end t names false end st ok (picked d .0 .child) (is-default t names ok d) (heard ok (stop e g) r)
+heard {t} {names} {end = end} {st} ok (asked e g i) (ended m f d r) = at-end t names true end st ok (picked d .0 .child) (is-default t names ok d) (heard ok (asked e g i) r)
 heard ok (word e p x) (ended m f d r) = no-word e f
-heard {t} {names} {end = end} ok (stop e) (nowhere m f d) = no-default t names false end m (never-default t names ok d)
-heard {t} {names} {end = end} ok (asked e g) (nowhere m f d) = no-default t names true end m (never-default t names ok d)
+heard {t} {names} {end = end} {st} ok (stop e g) (nowhere m f d) = no-default t names false end st m (never-default t names ok d)
+heard {t} {names} {end = end} {st} ok (asked e g i) (nowhere m f d) = no-default t names true end st m (never-default t names ok d)
 heard ok (word e p x) (nowhere m f d) = no-word e f

@@ -1,6 +1,4 @@
 -- Laws that belong to no one function.
-pub mod Tokens
-pub mod Descents
 pub mod Entries
 pub mod Unique
 pub mod Outcomes

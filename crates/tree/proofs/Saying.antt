@@ -7,72 +7,73 @@ use Rattle.token.specs.View.{partOf}
 use Rattle.token.specs.declared.View.{View}
 use Rattle.token.specs.declared.Token.{Token}
 use Rattle.tokenizer.specs.Step.{step}
-use Rattle.tokenizer.specs.declared.Answer.{Answer}
 use Rattle.tokenizer.specs.declared.Answer.the-variants as answer
 use Rattle.tokenizer.specs.declared.State.{State}
-use Rattle.tokenizer.specs.declared.Step.{Step}
-use Rattle.tree.specs.Header.{tokenAhead, aheadOf, wordAhead, behindColon, turnAhead, turnOf}
-use Rattle.tree.specs.WellFormed.{Tokens, end, next, Shown, event, query, then}
-use Rattle.tree.specs.declared.Ahead.the-variants as ahead
+use Rattle.header.specs.Seen.{tokenAhead, aheadOf, seenAt}
+use Rattle.header.specs.Header.{wordBehind, behindColon, atBranch, turnOf}
+use Rattle.header.specs.declared.Stop.the-variants as end
+use Rattle.header.specs.declared.Ahead.the-variants as ahead
+use Rattle.header.specs.declared.Seen.{Seen}
+use Rattle.tree.specs.WellFormed.{Tokens, no-more, next, Shown, event, query, then}
 use Rattle.tree.proofs.Hearing.{Hears, stop, asked, word}
 
-pub token-ahead : {a : Answer} {t : Token} → a ≡ answer.Token t → aheadOf a ≡ tokenAhead t
-unfolding aheadOf
-token-ahead e = rw e
+-- what a step's answer is to a header
+module _ (s : List ℕ) (st : State) where
+  pub token-seen : {t : Token} → (step s st) .answer ≡ answer.Token t → (seenAt s st) .ahead ≡ tokenAhead t
+  unfolding seenAt
+  token-seen e = ap aheadOf e
 
-end-ahead : {a : Answer} → a ≡ answer.End → aheadOf a ≡ ahead.Stop
-unfolding aheadOf
-end-ahead e = rw e
+  end-seen : (step s st) .answer ≡ answer.End → (seenAt s st) .ahead ≡ ahead.Stop end.Text
+  unfolding seenAt
+  end-seen e = ap aheadOf e
 
 -- the first of the words stands at the state, and behind it the others are heard up to the end of the text
 pub record Said (s : List ℕ) (words : List (List ℕ)) (q : Bool) (st : State) : Type 0 where
   pub first : List ℕ
   pub rest : List (List ℕ)
   pub view : View
-  pub behind : Step
+  pub last : State
   pub parts : words ≡ first ∷ rest
-  pub there : aheadOf ((step s st) .answer) ≡ ahead.Word view
+  pub there : (seenAt s st) .ahead ≡ ahead.Word view
   pub shows : partOf s view ≡ first
-  pub hears : Hears s behind rest q (step s ((step s st) .state))
-  pub over : behind .answer ≡ answer.End
+  pub hears : Hears s end.Text last rest q (seenAt s ((seenAt s st) .state))
 
 module _ {s : List ℕ} {words : List (List ℕ)} {q : Bool} where
   -- so all are heard from there on
-  pub from-there : {st : State} (x : Said s words q st) → Hears s (x .behind) words q (step s st)
+  pub from-there : {st : State} (x : Said s words q st) → Hears s end.Text (x .last) words q (seenAt s st)
   unfolding turnOf
-  from-there {st} x = rw (x .parts) (word (ap (turnAhead s (step s st)) (x .there)) (x .shows) (x .hears))
+  from-there {st} x = rw (x .parts) (word (ap (atBranch s ((seenAt s st) .state)) (x .there)) (x .shows) (x .hears))
 
   -- and from a colon before them
-  pub from-colon : {st : Step} → aheadOf (st .answer) ≡ ahead.Colon → (x : Said s words q (st .state)) → Hears s (x .behind) words q st
+  pub from-colon : {seen : Seen} → seen .ahead ≡ ahead.Colon → (x : Said s words q (seen .state)) → Hears s end.Text (x .last) words q seen
   unfolding turnOf behindColon
-  from-colon {st} e x =
+  from-colon {seen} e x =
       rw (x .parts)
-      (word (ap (turnAhead s st) e ∙ ap (wordAhead (step s (st .state))) (x .there)) (x .shows) (x .hears))
+      (word (ap (atBranch s (seen .state)) e ∙ ap (wordBehind ((seenAt s (seen .state)) .state)) (x .there)) (x .shows) (x .hears))
 
 pub said : {s : List ℕ} {words : List (List ℕ)} {q : Bool} {tokens : List Token} {st : State} → Shown s words q tokens → Tokens s st tokens → Said s words q st
-said {s} {st = st} (event {v} {w} p) (next e (end f)) =
+unfolding seenAt
+said {s} {st = st} (event {v} {w} p) (next e (no-more f)) =
     record {
       first = w;
       rest = [];
       view = v;
-      behind = step s ((step s st) .state);
+      last = (step s ((step s st) .state)) .state;
       parts = refl;
-      there = token-ahead e;
+      there = token-seen s st e;
       shows = p;
-      hears = stop (end-ahead f);
-      over = f;
+      hears = stop (end-seen s ((step s st) .state) f) refl;
     }
-said {s} {st = st} (query {v} {w} p) (next e (next f (end g))) =
+said {s} {st = st} (query {v} {w} p) (next e (next f (no-more g))) =
     record {
       first = w;
       rest = [];
       view = v;
-      behind = step s ((step s ((step s st) .state)) .state);
+      last = (step s ((step s ((step s st) .state)) .state)) .state;
       parts = refl;
-      there = token-ahead e;
+      there = token-seen s st e;
       shows = p;
-      hears = asked (token-ahead f) refl;
-      over = g;
+      hears = asked (token-seen s ((step s st) .state) f) (end-seen s ((step s ((step s st) .state)) .state) g) refl;
     }
 said {s} {st = st} (then {v} {w} {words} p x) (next e (next f y)) =
     let z = said x y in
@@ -80,10 +81,9 @@ said {s} {st = st} (then {v} {w} {words} p x) (next e (next f y)) =
       first = w;
       rest = words;
       view = v;
-      behind = z .behind;
+      last = z .last;
       parts = refl;
-      there = token-ahead e;
+      there = token-seen s st e;
       shows = p;
-      hears = from-colon (token-ahead f) z;
-      over = z .over;
+      hears = from-colon (token-seen s ((step s st) .state) f) z;
     }

@@ -27,7 +27,7 @@ use Rattle.tokenizer.specs.declared.State.{State}
 use Rattle.tokenizer.specs.declared.Answer.the-variants as answer
 use Rattle.tokenizer.specs.declared.Step.{Step}
 use Rattle.tokenizer.proofs.Steps.{end′, colon′, question′, small′, capital′}
-use Rattle.tree.specs.WellFormed.{Mnemonic, Joined, last, before, WellFormed, Tokens, end, next, Shown, event, query, then}
+use Rattle.tree.specs.WellFormed.{Mnemonic, Joined, last, before, WellFormed, Tokens, no-more, next, Shown, event, query, then}
 
 -- letters have one of two kinds
 
@@ -145,8 +145,8 @@ module _ (s : List ℕ) where
 
   -- behind the last mnemonic
   form-tokens : (q : Bool) (p : ℕ) → drop p s ≡ cond q (ascii "?") [] → Tokens s (inHeaderAt p) (cond q (HeaderQuerySuffix ∷ []) [])
-  form-tokens false p h = end (at-end s p h true false)
-  form-tokens true p h = on (inHeaderAt p) HeaderQuerySuffix (p + 1) false false [] (question-step s p h) (end (at-end s (p + 1) (here-next s p (63 ∷ []) [] h) false false))
+  form-tokens false p h = no-more (at-end s p h true false)
+  form-tokens true p h = on (inHeaderAt p) HeaderQuerySuffix (p + 1) false false [] (question-step s p h) (no-more (at-end s (p + 1) (here-next s p (63 ∷ []) [] h) false false))
 
   shown : (q : Bool) (w : List ℕ) (v : View) → partOf s v ≡ w → Shown s (w ∷ []) q (ProgramMnemonic v ∷ cond q (HeaderQuerySuffix ∷ []) [])
   shown false w v e = event e

@@ -9,24 +9,25 @@ use Rattle.error.specs.declared.ErrorCode.the-variants as refusal
 use Rattle.node.specs.Tree.{branch}
 use Rattle.table.specs.Fault.{Accepted, Verdict}
 use Rattle.table.specs.declared.Checked.the-variants as checked
-use Rattle.tokenizer.specs.Step.{ofMessage, step}
-use Rattle.tokenizer.specs.declared.Answer.{Answer}
-use Rattle.tokenizer.specs.declared.Answer.the-variants as answer
-use Rattle.tree.specs.Header.{Begins}
-use Rattle.tree.specs.declared.Header.{Header}
-use Rattle.tree.specs.declared.Header.the-variants as header
+use Rattle.tokenizer.specs.Step.{ofMessage}
+use Rattle.header.specs.Seen.{seenAt}
+use Rattle.header.specs.Header.{Begins}
+use Rattle.header.specs.declared.Stop.{Stop}
+use Rattle.header.specs.declared.Stop.the-variants as stop
+use Rattle.header.specs.declared.Header.{Header}
+use Rattle.header.specs.declared.Header.the-variants as header
 use Rattle.tree.specs.declared.Resolved.{Resolved}
 use Rattle.tree.specs.declared.Resolved.the-variants as resolved
 
 -- behind the header the text ends; a token there is -102
-abbrev pub aloneWith : ℕ → Bool → ℕ → Answer → Resolved
-aloneWith c query kept answer.End = resolved.Command c query kept
-aloneWith c query kept (answer.Token x) = resolved.Refused refusal.SyntaxError
-aloneWith c query kept (answer.Refused e) = resolved.Refused e
+abbrev pub aloneWith : ℕ → Bool → ℕ → Stop → Resolved
+aloneWith c query kept stop.Text = resolved.Command c query kept
+aloneWith c query kept stop.Separator = resolved.Refused refusal.SyntaxError
+aloneWith c query kept stop.Unit = resolved.Refused refusal.SyntaxError
 
 -- the answer for a text whose header was answered so
 abbrev pub closing : Header → Resolved
-closing (header.Found c query kept st) = aloneWith c query kept (st .answer)
+closing (header.Found c query kept x st) = aloneWith c query kept x
 closing (header.Refused e) = resolved.Refused e
 
 -- The answer for the text s from the branch b of a table that is not checked.
@@ -36,7 +37,7 @@ pub data Resolves (t names : List ℕ) (b : ℕ) (s : List ℕ) : Resolved → T
   -- 9
   too-long : branch t b ≡ true → 65535 < length s → Resolves t names b s (resolved.Refused refusal.MessageTooLong)
   -- the text
-  one-header : {r : Header} → branch t b ≡ true → length s ≤ 65535 → Begins t names s b (step s ofMessage) r → Resolves t names b s (closing r)
+  one-header : {r : Header} → branch t b ≡ true → length s ≤ 65535 → Begins t names s b (seenAt s ofMessage) r → Resolves t names b s (closing r)
 
 -- The answer where the table is checked first: its smallest fault, 1 to 6, before all else.
 pub data ResolvesAlone (t names : List ℕ) (b : ℕ) (s : List ℕ) : Resolved → Type 0 where

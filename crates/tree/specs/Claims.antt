@@ -10,12 +10,9 @@ use Rattle.table.specs.Fault.{Accepted}
 use Rattle.token.specs.declared.Token.{Token}
 use Rattle.token.specs.declared.Token.the-variants.{HeaderMnemonicSeparator}
 use Rattle.tokenizer.specs.Step.{ofMessage}
-use Rattle.tokenizer.specs.declared.Step.{Step}
 use Rattle.tree.specs.Route.{Route, Leads}
-use Rattle.tree.specs.Header.{Begins}
 use Rattle.tree.specs.Alone.{Resolves, ResolvesAlone}
 use Rattle.tree.specs.WellFormed.{WellFormed, Tokens, Shown}
-use Rattle.tree.specs.declared.Header.{Header}
 use Rattle.tree.specs.declared.Resolved.{Resolved}
 use Rattle.tree.specs.declared.Resolved.the-variants.{Command, Refused}
 
@@ -45,4 +42,3 @@ pub record Claims : Type 0 where
   -- there is one answer only, in every table and to every text
   pub one-alone : (t names : List ℕ) (b : ℕ) (s : List ℕ) (r q : Resolved) → ResolvesAlone t names b s r → ResolvesAlone t names b s q → r ≡ q
   pub one-unchecked : (t names : List ℕ) (b : ℕ) (s : List ℕ) (r q : Resolved) → Resolves t names b s r → Resolves t names b s q → r ≡ q
-  pub one-header : (t names s : List ℕ) (b : ℕ) (st : Step) (r q : Header) → Begins t names s b st r → Begins t names s b st q → r ≡ q

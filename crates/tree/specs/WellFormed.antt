@@ -36,7 +36,7 @@ pub record WellFormed (s : List ℕ) (rooted : Bool) (words : List (List ℕ)) (
 
 -- the tokens from a state to the end of the text, none refused
 pub data Tokens (s : List ℕ) : State → List Token → Type 0 where
-  end : {st : State} → (step s st) .answer ≡ answer.End → Tokens s st []
+  no-more : {st : State} → (step s st) .answer ≡ answer.End → Tokens s st []
   next : {st : State} {t : Token} {tokens : List Token} → (step s st) .answer ≡ answer.Token t → Tokens s ((step s st) .state) tokens
       → Tokens s st (t ∷ tokens)
 

@@ -2,8 +2,8 @@ use Rattle.tree.proofs.Entries.{accepted-laws}
 use Rattle.tree.proofs.resolve_accepted.Statement.{statement}
 use Rattle.tree.proofs.resolve_accepted.Tie as tie
 
-is-start-requires : tie.Need-is-start-requires
-is-start-requires c κs = search accepted-laws
+is-branch-requires : tie.Need-is-branch-requires
+is-branch-requires c κs = search accepted-laws
 
 returns : tie.Need-returns
 returns c = search accepted-laws
@@ -14,11 +14,11 @@ returns-2 c = search accepted-laws
 new-requires : tie.Need-new-requires
 new-requires c κs = search accepted-laws
 
-next-requires : tie.Need-next-requires
-next-requires c κs = search accepted-laws
+look-requires : tie.Need-look-requires
+look-requires c κs = search accepted-laws
 
-resolve-header-requires : tie.Need-resolve-header-requires
-resolve-header-requires c κs = search accepted-laws
+resolve-requires : tie.Need-resolve-requires
+resolve-requires c κs = search accepted-laws
 
 enum-known-e : tie.Need-enum-known-e
 enum-known-e c = search accepted-laws
@@ -39,12 +39,12 @@ pub resolve-accepted-spec : {M : Type 1} → statement M
 resolve-accepted-spec =
     tie.close
     (tie.spec
-    is-start-requires
+    is-branch-requires
     returns
     returns-2
     new-requires
-    next-requires
-    resolve-header-requires
+    look-requires
+    resolve-requires
     enum-known-e
     enum-known-command
     alone-requires

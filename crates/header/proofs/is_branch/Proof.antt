@@ -1,6 +1,6 @@
-use Rattle.tree.proofs.Entries.{start-laws}
-use Rattle.tree.proofs.is_start.Statement.{statement}
-use Rattle.tree.proofs.is_start.Tie as tie
+use Rattle.header.proofs.Entries.{start-laws}
+use Rattle.header.proofs.is_branch.Statement.{statement}
+use Rattle.header.proofs.is_branch.Tie as tie
 
 mul-is-branch : tie.Need-mul-is-branch
 mul-is-branch c = search start-laws
@@ -17,7 +17,7 @@ returns c = search start-laws
 returns-2 : tie.Need-returns-2
 returns-2 c = search start-laws
 
-pub is-start-spec : {M : Type 1} → statement M
-is-start-spec =
+pub is-branch-spec : {M : Type 1} → statement M
+is-branch-spec =
     tie.close
     (tie.spec mul-is-branch shared-slice-read-is-branch is-branch-requires returns returns-2)

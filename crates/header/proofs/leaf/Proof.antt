@@ -1,18 +1,21 @@
-use Rattle.tree.proofs.Tokens.{told-laws}
-use Rattle.tree.proofs.behind_colon.Statement.{statement}
-use Rattle.tree.proofs.behind_colon.Tie as tie
+use Rattle.header.proofs.Tokens.{told-laws}
+use Rattle.header.proofs.leaf.Statement.{statement}
+use Rattle.header.proofs.leaf.Tie as tie
+
+enum-known-ahead : tie.Need-enum-known-ahead
+enum-known-ahead c = search told-laws
+
+enum-told : tie.Need-enum-told
+enum-told c = search told-laws
 
 look-requires : tie.Need-look-requires
 look-requires c κs = search told-laws
 
-enum-known-word : tie.Need-enum-known-word
-enum-known-word c = search told-laws
+query-requires : tie.Need-query-requires
+query-requires c κs = search told-laws
 
-enum-known-e : tie.Need-enum-known-e
-enum-known-e c = search told-laws
-
-enum-told : tie.Need-enum-told
-enum-told c = search told-laws
+enum-known-ahead-2 : tie.Need-enum-known-ahead-2
+enum-known-ahead-2 c = search told-laws
 
 enum-told-2 : tie.Need-enum-told-2
 enum-told-2 c = search told-laws
@@ -35,14 +38,15 @@ returns-4 c = search told-laws
 returns-5 : tie.Need-returns-5
 returns-5 c = search told-laws
 
-pub behind-colon-spec : {M : Type 1} → statement M
-behind-colon-spec =
+pub leaf-spec : {M : Type 1} → statement M
+leaf-spec =
     tie.close
     (tie.spec
-    look-requires
-    enum-known-word
-    enum-known-e
+    enum-known-ahead
     enum-told
+    look-requires
+    query-requires
+    enum-known-ahead-2
     enum-told-2
     enum-told-3
     returns

@@ -1,22 +1,22 @@
-use Rattle.tree.proofs.Descents.{child-in′, down-laws, descent-laws}
+use Rattle.header.proofs.Descents.{child-in′, down-laws, descent-laws}
 use Prim.Native.Nat.{ℕ, _-_, _<_}
 use lib.ListN.{length}
 use borrow.Author.Needs.{needs}
 use borrow.Fn.Kinds.{In}
 use borrow.Fn.PlainCycle.{Measures, is, falls, and}
-use Rattle.tree.proofs.descend.Reads as descend
-use Rattle.tree.proofs.descend.Kinds as descend-kinds
-use Rattle.tree.proofs.+descend.Lts-descend as descend-lts
+use Rattle.header.proofs.descend.Reads as descend
+use Rattle.header.proofs.descend.Kinds as descend-kinds
+use Rattle.header.proofs.+descend.Lts-descend as descend-lts
 use Rattle.branch.proofs.default_child.Reads as default-child-reads
 use Rattle.branch.proofs.spoken_child.Reads as spoken-child-reads
+use Rattle.header.proofs.leaf.Reads as leaf-reads
+use Rattle.header.proofs.look.Reads as look-reads
+use Rattle.header.proofs.turn_at.Reads as turn-at-reads
 use Rattle.node.proofs.command_number.Reads as command-number-reads
 use Rattle.node.proofs.is_branch.Reads as is-branch-reads
 use Rattle.token.proofs.part.Reads as part-reads
-use Rattle.tokenizer.proofs.next.Reads as next-reads
-use Rattle.tree.proofs.leaf.Reads as leaf-reads
-use Rattle.tree.proofs.turn_at.Reads as turn-at-reads
-use Rattle.tree.proofs.+descend.{statement}
-use Rattle.tree.proofs.+descend.Tie.{close}
+use Rattle.header.proofs.+descend.{statement}
+use Rattle.header.proofs.+descend.Tie.{close}
 
 abbrev μ-descend : Measures 3 descend-kinds.ps ℕ
 μ-descend κs a = length (a .0 .now) - a .1 .1 .1 .1 .0
@@ -28,7 +28,7 @@ abbrev descend-below : ℕ → In 3 descend-kinds.ps
 descend-below t = and 3 descend-kinds.ps (falls 3 descend-kinds.ps _<_ μ-descend t) descend.Pre
 
 abbrev descend-R : ℕ → descend-lts.Claims
-descend-R t = (is-branch-reads.Asked, is-branch-reads.Learnt, command-number-reads.Asked, command-number-reads.Learnt, leaf-reads.Asked, leaf-reads.Learnt, turn-at-reads.Asked, turn-at-reads.Learnt, default-child-reads.Asked, default-child-reads.Learnt, descend-below t, descend.Post, part-reads.Asked, part-reads.Learnt, spoken-child-reads.Asked, spoken-child-reads.Learnt, next-reads.Asked, next-reads.Learnt)
+descend-R t = (is-branch-reads.Asked, is-branch-reads.Learnt, command-number-reads.Asked, command-number-reads.Learnt, leaf-reads.Asked, leaf-reads.Learnt, turn-at-reads.Asked, turn-at-reads.Learnt, default-child-reads.Asked, default-child-reads.Learnt, descend-below t, descend.Post, part-reads.Asked, part-reads.Learnt, spoken-child-reads.Asked, spoken-child-reads.Learnt, look-reads.Asked, look-reads.Learnt)
 
 descend-mul-node : (t : ℕ) → descend-lts.Need-mul-node (descend-R t) (descend-at t) descend.Post
 descend-mul-node t c = search descent-laws
@@ -81,8 +81,8 @@ descend-spoken-child-requires t c κs = search descent-laws
 descend-enum-known-k-2 : (t : ℕ) → descend-lts.Need-enum-known-k-2 (descend-R t) (descend-at t) descend.Post
 descend-enum-known-k-2 t c = search descent-laws
 
-descend-next-requires : (t : ℕ) → descend-lts.Need-next-requires (descend-R t) (descend-at t) descend.Post
-descend-next-requires t c κs = search descent-laws
+descend-look-requires : (t : ℕ) → descend-lts.Need-look-requires (descend-R t) (descend-at t) descend.Post
+descend-look-requires t c κs = search descent-laws
 
 descend-descend-requires-2 : (t : ℕ) → descend-lts.Need-descend-requires-2 (descend-R t) (descend-at t) descend.Post
 descend-descend-requires-2 t c κs = (search down-laws, search down-laws)
@@ -141,7 +141,7 @@ pub +descend-spec : {M : Type 1} → statement M
     (descend-part-requires t)
     (descend-spoken-child-requires t)
     (descend-enum-known-k-2 t)
-    (descend-next-requires t)
+    (descend-look-requires t)
     (descend-descend-requires-2 t)
     (descend-enum-told-3 t)
     (descend-default-child-requires-2 t)

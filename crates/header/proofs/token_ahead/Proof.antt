@@ -1,6 +1,6 @@
-use Rattle.tree.proofs.Tokens.{laws}
-use Rattle.tree.proofs.look_at.Statement.{statement}
-use Rattle.tree.proofs.look_at.Tie as tie
+use Rattle.header.proofs.Tokens.{laws}
+use Rattle.header.proofs.token_ahead.Statement.{statement}
+use Rattle.header.proofs.token_ahead.Tie as tie
 
 enum-known-token : tie.Need-enum-known-token
 enum-known-token c = search laws
@@ -80,8 +80,8 @@ returns-12 c = search laws
 returns-13 : tie.Need-returns-13
 returns-13 c = search laws
 
-pub look-at-spec : {M : Type 1} → statement M
-look-at-spec =
+pub token-ahead-spec : {M : Type 1} → statement M
+token-ahead-spec =
     tie.close
     (tie.spec
     enum-known-token

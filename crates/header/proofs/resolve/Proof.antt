@@ -1,18 +1,15 @@
-use Rattle.tree.proofs.Entries.{root-in′, header-laws}
-use Rattle.tree.proofs.resolve_header.Statement.{statement}
-use Rattle.tree.proofs.resolve_header.Tie as tie
+use Rattle.header.proofs.Entries.{root-in′, header-laws}
+use Rattle.header.proofs.resolve.Statement.{statement}
+use Rattle.header.proofs.resolve.Tie as tie
 
-is-start-requires : tie.Need-is-start-requires
-is-start-requires c κs = search header-laws
+is-branch-requires : tie.Need-is-branch-requires
+is-branch-requires c κs = search header-laws
 
 returns : tie.Need-returns
 returns c = search header-laws
 
-look-requires : tie.Need-look-requires
-look-requires c κs = search header-laws
-
-enum-known-e : tie.Need-enum-known-e
-enum-known-e c = search header-laws
+enum-known-ahead : tie.Need-enum-known-ahead
+enum-known-ahead c = search header-laws
 
 enum-told : tie.Need-enum-told
 enum-told c = search header-laws
@@ -23,14 +20,14 @@ enum-told-2 c = search header-laws
 enum-told-3 : tie.Need-enum-told-3
 enum-told-3 c = search header-laws
 
-next-requires : tie.Need-next-requires
-next-requires c κs = search header-laws
+look-requires : tie.Need-look-requires
+look-requires c κs = search header-laws
 
 descend-requires : tie.Need-descend-requires
 descend-requires c κs = search header-laws
 
-enum-known-word : tie.Need-enum-known-word
-enum-known-word c = search header-laws
+enum-known-ahead-2 : tie.Need-enum-known-ahead-2
+enum-known-ahead-2 c = search header-laws
 
 part-requires : tie.Need-part-requires
 part-requires c κs = search header-laws
@@ -39,7 +36,7 @@ stands-requires : tie.Need-stands-requires
 stands-requires c κs = search header-laws
 
 descend-requires-2 : tie.Need-descend-requires-2
-descend-requires-2 c κs = search (root-in′, c .before .before .before .before .before .before .before .before .is-start .ensures, c .before .before .before .before .before .before .before .if1 .left)
+descend-requires-2 c κs = search (root-in′, c .before .before .before .before .before .before .before .before .is-branch .ensures, c .before .before .before .before .before .before .before .if1 .left)
 
 keep-requires : tie.Need-keep-requires
 keep-requires c κs = search header-laws
@@ -65,20 +62,19 @@ returns-6 c = search header-laws
 returns-7 : tie.Need-returns-7
 returns-7 c = search header-laws
 
-pub resolve-header-spec : {M : Type 1} → statement M
-resolve-header-spec =
+pub resolve-spec : {M : Type 1} → statement M
+resolve-spec =
     tie.close
     (tie.spec
-    is-start-requires
+    is-branch-requires
     returns
-    look-requires
-    enum-known-e
+    enum-known-ahead
     enum-told
     enum-told-2
     enum-told-3
-    next-requires
+    look-requires
     descend-requires
-    enum-known-word
+    enum-known-ahead-2
     part-requires
     stands-requires
     descend-requires-2

@@ -1,9 +1,12 @@
-use Rattle.tree.proofs.Tokens.{told-laws}
-use Rattle.tree.proofs.leaf.Statement.{statement}
-use Rattle.tree.proofs.leaf.Tie as tie
+use Rattle.header.proofs.Tokens.{told-laws}
+use Rattle.header.proofs.behind_colon.Statement.{statement}
+use Rattle.header.proofs.behind_colon.Tie as tie
 
-look-requires : tie.Need-look-requires
-look-requires c κs = search told-laws
+enum-known-ahead : tie.Need-enum-known-ahead
+enum-known-ahead c = search told-laws
+
+enum-known-ahead-2 : tie.Need-enum-known-ahead-2
+enum-known-ahead-2 c = search told-laws
 
 enum-told : tie.Need-enum-told
 enum-told c = search told-laws
@@ -11,17 +14,8 @@ enum-told c = search told-laws
 enum-told-2 : tie.Need-enum-told-2
 enum-told-2 c = search told-laws
 
-next-requires : tie.Need-next-requires
-next-requires c κs = search told-laws
-
-enum-known-e : tie.Need-enum-known-e
-enum-known-e c = search told-laws
-
 enum-told-3 : tie.Need-enum-told-3
 enum-told-3 c = search told-laws
-
-enum-told-4 : tie.Need-enum-told-4
-enum-told-4 c = search told-laws
 
 returns : tie.Need-returns
 returns c = search told-laws
@@ -38,17 +32,15 @@ returns-4 c = search told-laws
 returns-5 : tie.Need-returns-5
 returns-5 c = search told-laws
 
-pub leaf-spec : {M : Type 1} → statement M
-leaf-spec =
+pub behind-colon-spec : {M : Type 1} → statement M
+behind-colon-spec =
     tie.close
     (tie.spec
-    look-requires
+    enum-known-ahead
+    enum-known-ahead-2
     enum-told
     enum-told-2
-    next-requires
-    enum-known-e
     enum-told-3
-    enum-told-4
     returns
     returns-2
     returns-3

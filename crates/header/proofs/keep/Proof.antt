@@ -1,6 +1,6 @@
-use Rattle.tree.proofs.Tokens.{laws}
-use Rattle.tree.proofs.keep.Statement.{statement}
-use Rattle.tree.proofs.keep.Tie as tie
+use Rattle.header.proofs.Tokens.{laws}
+use Rattle.header.proofs.keep.Statement.{statement}
+use Rattle.header.proofs.keep.Tie as tie
 
 enum-known-header : tie.Need-enum-known-header
 enum-known-header c = search laws

@@ -1,12 +1,9 @@
-use Rattle.tree.proofs.Tokens.{told-laws}
-use Rattle.tree.proofs.turn_at.Statement.{statement}
-use Rattle.tree.proofs.turn_at.Tie as tie
+use Rattle.header.proofs.Tokens.{told-laws}
+use Rattle.header.proofs.turn_at.Statement.{statement}
+use Rattle.header.proofs.turn_at.Tie as tie
 
-look-requires : tie.Need-look-requires
-look-requires c κs = search told-laws
-
-enum-known-word : tie.Need-enum-known-word
-enum-known-word c = search told-laws
+enum-known-ahead : tie.Need-enum-known-ahead
+enum-known-ahead c = search told-laws
 
 enum-told : tie.Need-enum-told
 enum-told c = search told-laws
@@ -14,14 +11,14 @@ enum-told c = search told-laws
 enum-told-2 : tie.Need-enum-told-2
 enum-told-2 c = search told-laws
 
-enum-known-e : tie.Need-enum-known-e
-enum-known-e c = search told-laws
+enum-known-ahead-2 : tie.Need-enum-known-ahead-2
+enum-known-ahead-2 c = search told-laws
 
 enum-told-3 : tie.Need-enum-told-3
 enum-told-3 c = search told-laws
 
-next-requires : tie.Need-next-requires
-next-requires c κs = search told-laws
+look-requires : tie.Need-look-requires
+look-requires c κs = search told-laws
 
 behind-colon-requires : tie.Need-behind-colon-requires
 behind-colon-requires c κs = search told-laws
@@ -45,13 +42,12 @@ pub turn-at-spec : {M : Type 1} → statement M
 turn-at-spec =
     tie.close
     (tie.spec
-    look-requires
-    enum-known-word
+    enum-known-ahead
     enum-told
     enum-told-2
-    enum-known-e
+    enum-known-ahead-2
     enum-told-3
-    next-requires
+    look-requires
     behind-colon-requires
     returns
     returns-2

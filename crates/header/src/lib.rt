@@ -1,0 +1,263 @@
+// Headers: from a branch of the command tree down to the command that one names. `run_tokens` and `exec` of tree/mod.rs of the original.
+ghost use Prim.Native.Nat.{_<_};
+ghost use mathlib.Core.Path.{_≡_};
+ghost use lib.ListN.{length};
+ghost use Rattle.node.specs.Tree.{branch};
+ghost use Rattle.header.specs.Seen.{tokenAhead, aheadOf, seenAt};
+ghost use Rattle.header.specs.Header.{turnOf, behindColon, leafAnswer, queryAnswer, keeping, Reads, Begins};
+use branch::Pick;
+use error::ErrorCode;
+use token::Token;
+use token::View;
+use tokenizer::Answer;
+use tokenizer::State;
+
+// What ends a header: white space, `;` or the end of the text.
+pub enum Stop {
+    Separator,
+    Unit,
+    Text,
+}
+
+// What a token is to a header.
+pub enum Ahead {
+    // a mnemonic
+    Word(View),
+    // `:`
+    Colon,
+    // `?`
+    Query,
+    Stop(Stop),
+    Refused(ErrorCode),
+}
+
+// What is ahead, and the state behind it.
+pub struct Seen {
+    pub ahead: Ahead,
+    pub state: State,
+}
+
+// What a header goes on with at a branch.
+pub enum Turn {
+    // a mnemonic, and the state behind it
+    Word { word: View, state: State },
+    Stop,
+    Refused(ErrorCode),
+}
+
+// The command of a header, its form, the branch that the next header starts from, what ended the header, and the state behind that.
+pub enum Header {
+    Found {
+        command: u16,
+        query: bool,
+        branch: usize,
+        stop: Stop,
+        state: State,
+    },
+    Refused(ErrorCode),
+}
+
+// Resolves the header of a unit from a branch, where its first token is seen.
+pub fn resolve(nodes: &[u64], names: &[u8], s: &[u8], start: usize, seen: Seen) -> Header
+    ensures { λ r. ⌜ Begins (now (nodes .entry)) (now (names .entry)) (now (s .entry)) start seen r ⌝ }
+{
+    if !is_branch(nodes, start) {
+        return Header::Refused(ErrorCode::StartIsNoBranch);
+    }
+    let ahead = seen.ahead;
+    let state = seen.state;
+    match ahead {
+        Ahead::Refused(e) => Header::Refused(e),
+        Ahead::Stop(_) => Header::Refused(ErrorCode::SyntaxError),
+        Ahead::Query => Header::Refused(ErrorCode::SyntaxError),
+        Ahead::Colon => descend(nodes, names, s, 0, 0, look(s, state)),
+        Ahead::Word(word) => {
+            if util::stands(token::part(s, word), 0, b'*') {
+                return keep(start, descend(nodes, names, s, 0, 0, seen));
+            }
+            descend(nodes, names, s, start, start, seen)
+        }
+    }
+}
+
+// Whether a node is a branch of the table.
+pub fn is_branch(nodes: &[u64], b: usize) -> bool
+    ensures { λ r. ⌜ r ≡ branch (now (nodes .entry)) b ⌝ }
+{
+    if b < nodes.len() {
+        return node::is_branch(nodes[b]);
+    }
+    false
+}
+
+// The same command, with another branch kept.
+fn keep(start: usize, header: Header) -> Header
+    ensures { λ r. ⌜ r ≡ keeping start header ⌝ }
+{
+    match header {
+        Header::Refused(e) => Header::Refused(e),
+        Header::Found {
+            command,
+            query,
+            branch: _,
+            stop,
+            state,
+        } => Header::Found {
+            command,
+            query,
+            branch: start,
+            stop,
+            state,
+        },
+    }
+}
+
+// Goes on from a node with what is ahead. The holder is the branch of the node that was spoken last.
+fn descend(nodes: &[u64], names: &[u8], s: &[u8], holder: usize, at: usize, seen: Seen) -> Header
+    requires { ⌜ at < length (now nodes) ⌝ }
+    ensures { λ r. ⌜ Reads (now (nodes .entry)) (now (names .entry)) (now (s .entry)) holder at seen r ⌝ }
+{
+    let node = nodes[at];
+    if !node::is_branch(node) {
+        return leaf(s, node::command_number(node), holder, seen);
+    }
+    match turn_at(s, seen) {
+        Turn::Refused(e) => Header::Refused(e),
+        Turn::Stop => match branch::default_child(nodes, at) {
+            Pick::None => Header::Refused(ErrorCode::UndefinedHeader),
+            Pick::Child(k) => descend(nodes, names, s, holder, k, seen),
+        },
+        Turn::Word { word, state } => {
+            match branch::spoken_child(nodes, names, at, token::part(s, word)) {
+                Pick::Child(k) => descend(nodes, names, s, at, k, look(s, state)),
+                Pick::None => match branch::default_child(nodes, at) {
+                    Pick::None => Header::Refused(ErrorCode::UndefinedHeader),
+                    Pick::Child(k) => {
+                        let again = Seen {
+                            ahead: Ahead::Word(word),
+                            state,
+                        };
+                        descend(nodes, names, s, holder, k, again)
+                    }
+                },
+            }
+        }
+    }
+}
+
+// At a leaf the header ends, or it has no command.
+fn leaf(s: &[u8], command: u16, holder: usize, seen: Seen) -> Header
+    ensures { λ r. ⌜ r ≡ leafAnswer (now (s .entry)) command holder seen ⌝ }
+{
+    let ahead = seen.ahead;
+    let state = seen.state;
+    match ahead {
+        Ahead::Stop(stop) => Header::Found {
+            command,
+            query: false,
+            branch: holder,
+            stop,
+            state,
+        },
+        Ahead::Query => query(command, holder, look(s, state)),
+        Ahead::Refused(e) => Header::Refused(e),
+        Ahead::Word(_) => Header::Refused(ErrorCode::UndefinedHeader),
+        Ahead::Colon => Header::Refused(ErrorCode::UndefinedHeader),
+    }
+}
+
+// Behind a `?` the header ends.
+fn query(command: u16, holder: usize, seen: Seen) -> Header
+    ensures { λ r. ⌜ r ≡ queryAnswer command holder seen ⌝ }
+{
+    let ahead = seen.ahead;
+    let state = seen.state;
+    match ahead {
+        Ahead::Stop(stop) => Header::Found {
+            command,
+            query: true,
+            branch: holder,
+            stop,
+            state,
+        },
+        Ahead::Refused(e) => Header::Refused(e),
+        Ahead::Query => Header::Refused(ErrorCode::SyntaxError),
+        Ahead::Word(_) => Header::Refused(ErrorCode::SyntaxError),
+        Ahead::Colon => Header::Refused(ErrorCode::SyntaxError),
+    }
+}
+
+// At a branch the header ends, or a word stands there, with a `:` before it or not.
+fn turn_at(s: &[u8], seen: Seen) -> Turn
+    ensures { λ r. ⌜ r ≡ turnOf (now (s .entry)) seen ⌝ }
+{
+    let ahead = seen.ahead;
+    let state = seen.state;
+    match ahead {
+        Ahead::Word(word) => Turn::Word { word, state },
+        Ahead::Stop(_) => Turn::Stop,
+        Ahead::Query => Turn::Stop,
+        Ahead::Refused(e) => Turn::Refused(e),
+        Ahead::Colon => behind_colon(look(s, state)),
+    }
+}
+
+// Behind a `:` stands a word.
+fn behind_colon(seen: Seen) -> Turn
+    ensures { λ r. ⌜ r ≡ behindColon seen ⌝ }
+{
+    let ahead = seen.ahead;
+    let state = seen.state;
+    match ahead {
+        Ahead::Word(word) => Turn::Word { word, state },
+        Ahead::Refused(e) => Turn::Refused(e),
+        Ahead::Stop(_) => Turn::Refused(ErrorCode::CommandHeaderError),
+        Ahead::Query => Turn::Refused(ErrorCode::CommandHeaderError),
+        Ahead::Colon => Turn::Refused(ErrorCode::CommandHeaderError),
+    }
+}
+
+// What the next token is to a header, and the state behind it.
+pub fn look(s: &[u8], state: State) -> Seen
+    ensures { λ r. ⌜ r ≡ seenAt (now (s .entry)) state ⌝ }
+{
+    let step = tokenizer::next(s, state);
+    let answer = step.answer;
+    let state = step.state;
+    Seen {
+        ahead: answer_ahead(answer),
+        state,
+    }
+}
+
+// The end of the text ends a header.
+fn answer_ahead(answer: Answer) -> Ahead
+    ensures { λ r. ⌜ r ≡ aheadOf answer ⌝ }
+{
+    match answer {
+        Answer::End => Ahead::Stop(Stop::Text),
+        Answer::Refused(e) => Ahead::Refused(e),
+        Answer::Token(token) => token_ahead(token),
+    }
+}
+
+// Data and a comma have no place in a header.
+fn token_ahead(token: Token) -> Ahead
+    ensures { λ r. ⌜ r ≡ tokenAhead token ⌝ }
+{
+    match token {
+        Token::ProgramMnemonic(word) => Ahead::Word(word),
+        Token::HeaderMnemonicSeparator => Ahead::Colon,
+        Token::HeaderQuerySuffix => Ahead::Query,
+        Token::ProgramHeaderSeparator => Ahead::Stop(Stop::Separator),
+        Token::ProgramMessageUnitSeparator => Ahead::Stop(Stop::Unit),
+        Token::ProgramDataSeparator => Ahead::Refused(ErrorCode::SyntaxError),
+        Token::CharacterProgramData(_) => Ahead::Refused(ErrorCode::SyntaxError),
+        Token::DecimalNumericProgramData(_) => Ahead::Refused(ErrorCode::SyntaxError),
+        Token::DecimalNumericSuffixProgramData(_, _) => Ahead::Refused(ErrorCode::SyntaxError),
+        Token::NonDecimalNumericProgramData(_) => Ahead::Refused(ErrorCode::SyntaxError),
+        Token::StringProgramData(_) => Ahead::Refused(ErrorCode::SyntaxError),
+        Token::ArbitraryBlockData(_) => Ahead::Refused(ErrorCode::SyntaxError),
+        Token::ExpressionProgramData(_) => Ahead::Refused(ErrorCode::SyntaxError),
+    }
+}

@@ -7,8 +7,10 @@
 //!     M <hexname> <hexword>  mnemonic_match and mnemonic_compare
 //!     R <words>/<nameshex> <start> <hex>  message; handler = the original's Parameters, next_optional_token until None
 //!     S <words>/<nameshex> <start> <hex>  the same; handler = items with single commas, anything else -102
+//!     A <words>/<nameshex> <start> <hex>  one header alone; handler = none of the items is read
 //!
-//! Fields are separated by runs of the bytes 9, 12, 13 and 32. A line that is none of these is answered `request?`.
+//! Fields are separated by runs of the bytes 9, 12, 13 and 32. Words are decimal with commas between, no word is "-". A line
+//! that is none of these is answered `request?`.
 //!
 //! Token answer: `kind view [view] @place flags`, parts joined by ` | `; flags `h` in header, `hc` in header and in common,
 //! `d` out of header (in-common can not be seen there). It ends with `end @place` or `refused N`.
@@ -17,6 +19,8 @@
 //! Name answer: `match 0|1 compare 0|1`.
 //! Message answer: `unit <command> event|query items <n> branch <kept>` .. then `end <n>` or `refused N <n>`; `table?` for a
 //! table that can not be built (tables are not checked), `start?` for a start that is no branch.
+//! Header answer: `command <command> event|query branch <kept>` of the first unit, or `refused N`, -102 where the text has no
+//! token or the header resolves and has one behind it; else as for a message.
 //! Each distinct table is leaked (names are 'static).
 use std::cell::RefCell;
 use std::collections::HashMap;
@@ -34,9 +38,14 @@ use scpi::{Context, Device};
 
 fn unhex(s: &str) -> Option<Vec<u8>> {
     if s == "-" { return Some(vec![]); }
-    if s.len() % 2 != 0 { return None; }
+    if s.is_empty() || s.len() % 2 != 0 { return None; }
     let digit = |b: u8| (b as char).to_digit(16);
     s.as_bytes().chunks(2).map(|p| Some((digit(p[0])? * 16 + digit(p[1])?) as u8)).collect()
+}
+
+/// Digits alone; `parse` would take a sign before them.
+fn number<N: std::str::FromStr>(s: &str) -> Option<N> {
+    if s.bytes().all(|b| b.is_ascii_digit()) { s.parse().ok() } else { None }
 }
 
 /// start..end of a view inside the text
@@ -173,31 +182,36 @@ fn numbers(text: &[u8]) -> String {
 // ---- tree ----
 #[derive(Clone, PartialEq, Debug)]
 struct Unit { command: u64, query: bool, items: usize, branch: Option<usize> }
-struct Dev { units: Vec<Unit>, strict: bool }
+/// How a handler reads its items.
+#[derive(Clone, Copy)]
+enum Items { Original, Single, Unread }
+struct Dev { units: Vec<Unit>, how: Items }
 impl Device for Dev { fn handle_error(&mut self, _e: Error) {} }
 struct Cmd(u64);
 impl Cmd {
     fn go(&self, d: &mut Dev, mut p: Parameters, query: bool) -> Result<()> {
         let mut items = 0;
-        if d.strict {
+        match d.how {
+            Items::Original => while p.next_optional_token()?.is_some() { items += 1; },
             // the rule of the port: no items, or items with single commas; else -102
-            let t = p.oracle_tokens();
-            loop {
-                match t.peek() {
-                    None | Some(Ok(Token::ProgramMessageUnitSeparator)) if items == 0 => break,
-                    Some(Err(e)) => return Err(Error::new(*e)),
-                    Some(Ok(tok)) if tok.is_data() => { t.next(); items += 1; }
-                    _ => return Err(ErrorCode::SyntaxError.into()),
-                }
-                match t.peek() {
-                    None | Some(Ok(Token::ProgramMessageUnitSeparator)) => break,
-                    Some(Err(e)) => return Err(Error::new(*e)),
-                    Some(Ok(Token::ProgramDataSeparator)) => { t.next(); }
-                    _ => return Err(ErrorCode::SyntaxError.into()),
+            Items::Single => {
+                let t = p.oracle_tokens();
+                loop {
+                    match t.peek() {
+                        None | Some(Ok(Token::ProgramMessageUnitSeparator)) if items == 0 => break,
+                        Some(Err(e)) => return Err(Error::new(*e)),
+                        Some(Ok(tok)) if tok.is_data() => { t.next(); items += 1; }
+                        _ => return Err(ErrorCode::SyntaxError.into()),
+                    }
+                    match t.peek() {
+                        None | Some(Ok(Token::ProgramMessageUnitSeparator)) => break,
+                        Some(Err(e)) => return Err(Error::new(*e)),
+                        Some(Ok(Token::ProgramDataSeparator)) => { t.next(); }
+                        _ => return Err(ErrorCode::SyntaxError.into()),
+                    }
                 }
             }
-        } else {
-            while p.next_optional_token()?.is_some() { items += 1; }
+            Items::Unread => {}
         }
         d.units.push(Unit { command: self.0, query, items, branch: None });
         Ok(())
@@ -234,10 +248,14 @@ fn build(nodes: &[Raw], names: &'static [u8], i: usize, depth: usize, kids: &mut
     }
 }
 
-fn tree(spec: &str) -> Option<Tree> {
+fn table(spec: &str) -> Option<(Vec<Raw>, Vec<u8>)> {
     let (w, names) = spec.split_once('/')?;
-    let names: &'static [u8] = Box::leak(unhex(names)?.into_boxed_slice());
-    let nodes: Vec<Raw> = w.split(',').map(|x| x.parse::<u64>().ok().map(raw)).collect::<Option<_>>()?;
+    let nodes = if w == "-" { vec![] } else { w.split(',').map(|x| number(x).map(raw)).collect::<Option<_>>()? };
+    Some((nodes, unhex(names)?))
+}
+
+fn tree((nodes, names): (Vec<Raw>, Vec<u8>)) -> Option<Tree> {
+    let names: &'static [u8] = Box::leak(names.into_boxed_slice());
     let mut kids = HashMap::new();
     let root: &'static Node<'static, Dev> = Box::leak(Box::new(build(&nodes, names, 0, 0, &mut kids)?));
     let mut place = HashMap::new();
@@ -253,10 +271,13 @@ fn tree(spec: &str) -> Option<Tree> {
     Some(Tree { root, place, by_index })
 }
 
-fn run(t: &Tree, start: usize, text: &[u8], strict: bool) -> String {
-    let s = match t.by_index.get(&start) { Some(s) => *s, None => return "start?".into() };
-    if !matches!(s, Node::Branch { .. }) { return "start?".into(); }
-    let mut dev = Dev { units: vec![], strict };
+type Run = (Vec<Unit>, Result<()>);
+
+/// The units that were run, and how it ended. The error is the answer where there is none.
+fn run(t: &Tree, start: usize, text: &[u8], how: Items) -> core::result::Result<Run, String> {
+    let s = match t.by_index.get(&start) { Some(s) => *s, None => return Err("start?".into()) };
+    if !matches!(s, Node::Branch { .. }) { return Err("start?".into()); }
+    let mut dev = Dev { units: vec![], how };
     let mut toks = Tokenizer::new(text).peekable();
     let place = &t.place;
     let r = run_tokens_observed(t.root, s, &mut dev, &mut Context::new(), &mut toks, &mut NullFmt, &mut |d: &mut Dev, n| {
@@ -267,17 +288,43 @@ fn run(t: &Tree, start: usize, text: &[u8], strict: bool) -> String {
     });
     if start == 0 {
         // the unchanged Node::run must agree
-        let mut dev2 = Dev { units: vec![], strict };
+        let mut dev2 = Dev { units: vec![], how };
         let r2 = t.root.run(text, &mut dev2, &mut Context::new(), &mut NullFmt);
         let strip = |v: &Vec<Unit>| v.iter().map(|u| (u.command, u.query, u.items)).collect::<Vec<_>>();
-        if r != r2 || strip(&dev.units) != strip(&dev2.units) { return "MISMATCH between run and run_observed".into(); }
+        if r != r2 || strip(&dev.units) != strip(&dev2.units) { return Err("MISMATCH between run and run_observed".into()); }
     }
-    let mut out: Vec<String> = dev.units.iter().map(|u| format!("unit {} {} items {} branch {}", u.command, if u.query { "query" } else { "event" }, u.items, u.branch.map_or("?".into(), |b| b.to_string()))).collect();
-    out.push(match r { Ok(()) => format!("end {}", dev.units.len()), Err(e) => format!("refused {} {}", e.get_code(), dev.units.len()) });
+    Ok((dev.units, r))
+}
+
+impl Unit {
+    fn form(&self) -> &'static str { if self.query { "query" } else { "event" } }
+    fn kept(&self) -> String { self.branch.map_or("?".into(), |b| b.to_string()) }
+}
+
+fn message((units, r): Run) -> String {
+    let mut out: Vec<String> = units.iter().map(|u| format!("unit {} {} items {} branch {}", u.command, u.form(), u.items, u.kept())).collect();
+    out.push(match r { Ok(()) => format!("end {}", units.len()), Err(e) => format!("refused {} {}", e.get_code(), units.len()) });
     out.join(" | ")
 }
 
-thread_local! { static TREES: RefCell<HashMap<String, Option<&'static Tree>>> = RefCell::new(HashMap::new()); }
+/// A header that resolves is followed by nothing, or the text has a token of another kind than headers have.
+fn header(text: &[u8], (units, r): Run) -> String {
+    let of_header = |t| matches!(t, Ok(Token::HeaderMnemonicSeparator | Token::ProgramMnemonic(..) | Token::HeaderQuerySuffix));
+    match (units.first(), r) {
+        (Some(u), _) if Tokenizer::new(text).all(of_header) => format!("command {} {} branch {}", u.command, u.form(), u.kept()),
+        (None, Err(e)) => format!("refused {}", e.get_code()),
+        _ => format!("refused {}", Error::from(ErrorCode::SyntaxError).get_code()),
+    }
+}
+
+/// None of a field that is no table, Some(None) of a table that can not be built.
+type Kept = Option<Option<&'static Tree>>;
+thread_local! { static TREES: RefCell<HashMap<String, Kept>> = RefCell::new(HashMap::new()); }
+
+fn kept_tree(spec: &str) -> Kept {
+    let new = || table(spec).map(|t| tree(t).map(|t| &*Box::leak(Box::new(t))));
+    TREES.with(|m| *m.borrow_mut().entry(spec.to_string()).or_insert_with(new))
+}
 
 fn answer(line: &str) -> Option<String> {
     let f: Vec<&str> = line.split(['\t', '\x0c', '\r', ' ']).filter(|f| !f.is_empty()).collect();
@@ -292,11 +339,15 @@ fn answer(line: &str) -> Option<String> {
             let c = guard(|| format!("{}", util::mnemonic_compare(&n, &w) as u8));
             format!("match {} compare {}", m, c)
         }
-        ("R", 4) | ("S", 4) => {
+        ("R" | "S" | "A", 4) => {
             let x = unhex(f[3])?;
-            let start: usize = f[2].parse().ok()?;
-            let t = TREES.with(|m| *m.borrow_mut().entry(f[1].to_string()).or_insert_with(|| tree(f[1]).map(|t| &*Box::leak(Box::new(t)))));
-            match t { None => "table?".into(), Some(t) => guard(|| run(t, start, &x, f[0] == "S")) }
+            let start: usize = number(f[2])?;
+            let t = match kept_tree(f[1])? { None => return Some("table?".into()), Some(t) => t };
+            guard(|| match f[0] {
+                "R" => run(t, start, &x, Items::Original).map(message),
+                "S" => run(t, start, &x, Items::Single).map(message),
+                _ => run(t, start, &x, Items::Unread).map(|r| header(&x, r)),
+            }.unwrap_or_else(|why| why))
         }
         _ => return None,
     })

@@ -4,7 +4,7 @@ use std::io::{BufRead, BufReader, BufWriter, Write};
 use std::process::{Child, ChildStdin, ChildStdout, Command, Stdio};
 use std::thread;
 
-use crate::kinds::{Kind, Listed, Right};
+use crate::kinds::{Kind, Said};
 use crate::request::clear;
 
 /// So many differences that are not listed are shown.
@@ -13,7 +13,7 @@ const SHOWN: usize = 10;
 /// So many characters of a line are shown.
 const WIDTH: usize = 2_000;
 
-/// Whether the port gives the right answer in every case. The Rust is started only where the right answers come from it.
+/// Whether the port gives the right answer in every case. The Rust is started only where it is needed.
 pub fn compare(
     kind: &Kind,
     n: usize,
@@ -41,27 +41,25 @@ pub fn compare(
             let mut port = Side::start("the port", port)?;
             let to_port = port.questions();
             scope.spawn(move || feed(to_port, for_port));
-            let asked = asked.by_ref().take(share);
-            match kind.right {
-                Right::Rust(expected) => {
-                    let mut rust = Side::start("the Rust original", &[rust])?;
-                    let to_rust = rust.questions();
-                    scope.spawn(move || feed(to_rust, for_rust));
-                    for request in asked {
-                        let case = tally.done + 1;
-                        let rust = rust.answer(case)?;
-                        let listed = expected(&request, &String::from_utf8_lossy(rust));
-                        tally.count(&request, rust, listed, port.answer(case)?);
-                    }
-                    rust.finish()?;
-                }
-                Right::Judge(answer) => {
-                    for request in asked {
-                        let right = answer(&request);
-                        let case = tally.done + 1;
-                        tally.count(&request, right.as_bytes(), None, port.answer(case)?);
-                    }
-                }
+            let mut rust = match kind.right.needs_rust() {
+                true => Some(Side::start("the Rust original", &[rust])?),
+                false => None,
+            };
+            if let Some(rust) = &mut rust {
+                let to_rust = rust.questions();
+                scope.spawn(move || feed(to_rust, for_rust));
+            }
+            for request in asked.by_ref().take(share) {
+                let case = tally.done + 1;
+                let answer = match &mut rust {
+                    Some(rust) => rust.answer(case)?,
+                    None => b"",
+                };
+                let said = kind.right.said(&request, answer);
+                tally.count(&request, &said, port.answer(case)?);
+            }
+            if let Some(rust) = &mut rust {
+                rust.finish()?;
             }
             port.finish()
         })?;
@@ -182,19 +180,16 @@ struct Tally<'a> {
 }
 
 impl Tally<'_> {
-    /// What the port says is held to what the Rust or the judge says, or to what is listed.
-    fn count(&mut self, request: &str, said: &[u8], listed: Option<Listed>, port: &[u8]) {
+    /// What the port says is held to what the Rust and the judge say, or to what is listed.
+    fn count(&mut self, request: &str, said: &Said, port: &[u8]) {
         self.done += 1;
-        let right = match &listed {
-            Some((_, answer)) => answer.as_bytes(),
-            None => said,
-        };
-        if port != said || port != right {
+        let right = said.right() == Some(port);
+        if !right || said.rust.is_some_and(|rust| rust != port) {
             self.differ += 1;
-            match listed {
-                Some((entry, _)) if port == right => {
+            match &said.listed {
+                Some((entry, _)) if right => {
                     self.listed += 1;
-                    if !self.entries.contains(&entry) {
+                    if !self.entries.contains(entry) {
                         self.entries.push(entry);
                         self.show(&format!("differs as listed: {entry}"), request, said, port);
                     }
@@ -202,7 +197,7 @@ impl Tally<'_> {
                 _ if self.differ - self.listed > SHOWN => {}
                 Some((entry, answer)) => {
                     self.show(&format!("is not as listed: {entry}"), request, said, port);
-                    println!("  listed   {}", cut(&answer));
+                    println!("  listed   {}", cut(answer));
                 }
                 None => self.show("differs", request, said, port),
             }
@@ -215,15 +210,16 @@ impl Tally<'_> {
         }
     }
 
-    fn show(&self, how: &str, request: &str, said: &[u8], port: &[u8]) {
-        let who = match self.kind.right {
-            Right::Rust(_) => "rust ",
-            Right::Judge(_) => "judge",
-        };
+    fn show(&self, how: &str, request: &str, said: &Said, port: &[u8]) {
         println!("case {} {how}", self.done);
         println!("  input    {}", cut(&clear(request)));
         println!("  request  {}", cut(request));
-        println!("  {who}    {}", cut(&said.escape_ascii().to_string()));
+        if let Some(rust) = said.rust {
+            println!("  rust     {}", cut(&rust.escape_ascii().to_string()));
+        }
+        if let Some(judge) = &said.judge {
+            println!("  judge    {}", cut(judge));
+        }
         println!("  port     {}", cut(&port.escape_ascii().to_string()));
     }
 }

@@ -14,6 +14,54 @@ pub enum Right {
     Rust(fn(request: &str, rust: &str) -> Option<Listed>),
     /// The judge, where the Rust has no such part.
     Judge(fn(request: &str) -> String),
+    /// Both, and they must agree: the judge answers each request, the Rust all but those whose answer comes of a part that
+    /// it does not have.
+    Both {
+        judge: fn(request: &str) -> String,
+        port_only: fn(answer: &str) -> bool,
+    },
+}
+
+/// What is said of a request beside the port's answer.
+pub struct Said<'a> {
+    pub rust: Option<&'a [u8]>,
+    pub judge: Option<String>,
+    pub listed: Option<Listed>,
+}
+
+impl Right {
+    pub fn needs_rust(&self) -> bool {
+        !matches!(self, Right::Judge(_))
+    }
+
+    /// The Rust's answer counts only where it is needed.
+    pub fn said<'a>(&self, request: &str, rust: &'a [u8]) -> Said<'a> {
+        let (judge, listed) = match self {
+            Right::Rust(expected) => (None, expected(request, &String::from_utf8_lossy(rust))),
+            Right::Judge(judge) | Right::Both { judge, .. } => (Some(judge(request)), None),
+        };
+        let counts = match (self, &judge) {
+            (Right::Both { port_only, .. }, Some(answer)) => !port_only(answer),
+            _ => self.needs_rust(),
+        };
+        Said {
+            rust: counts.then_some(rust),
+            judge,
+            listed,
+        }
+    }
+}
+
+impl Said<'_> {
+    /// The right answer. None where there are two.
+    pub fn right(&self) -> Option<&[u8]> {
+        match (&self.listed, &self.judge, self.rust) {
+            (Some((_, answer)), _, _) => Some(answer.as_bytes()),
+            (None, Some(judge), Some(rust)) if judge.as_bytes() != rust => None,
+            (None, Some(judge), _) => Some(judge.as_bytes()),
+            (None, None, rust) => rust,
+        }
+    }
 }
 
 pub struct Kind {
@@ -72,4 +120,5 @@ kinds! {
     channels
     numbers
     tables
+    alone
 }

@@ -1,10 +1,11 @@
 //! Gives the same requests to the Rust original and to the port, and compares their answers line by line. Where the Rust has
-//! no such part, the port is held to the judge's own answers.
+//! no such part, or more is asked than it alone can answer, the port is held to the judge's own answers.
 
 mod compare;
 mod kinds;
 mod random;
 mod request;
+mod route;
 mod table;
 mod text;
 mod tree;
@@ -13,7 +14,7 @@ use std::fs::File;
 use std::io::{BufRead, BufReader, BufWriter, Write};
 use std::process::ExitCode;
 
-use kinds::{Kind, Right, KINDS};
+use kinds::{Kind, KINDS};
 
 /// Exit status 0: as it should be, or yes. 1: differences that are not listed, or no. 2: bad usage, or a program failed.
 fn main() -> ExitCode {
@@ -36,7 +37,7 @@ fn run(words: &[&str]) -> Result<bool, String> {
             let (kind, n, seed) = asked(kind, n, seed)?;
             emit((kind.cases)(n, seed).map(String::into_bytes))
         }
-        [kind, "--needs-rust"] => Ok(matches!(known(kind)?.right, Right::Rust(_))),
+        [kind, "--needs-rust"] => Ok(known(kind)?.right.needs_rust()),
         [kind, "--record", requests, answers] => record(known(kind)?, requests, answers),
         [kind, n, seed, "--rust", rust, "--port", port @ ..] if !port.is_empty() => {
             let (kind, n, seed) = asked(kind, n, seed)?;
@@ -53,7 +54,7 @@ fn usage() -> String {
          judge KIND N SEED --rust PROGRAM --port PROGRAM [ARG..]   compare N cases\n  \
          judge KIND N SEED --emit                                  print their request lines\n  \
          judge KIND --record REQUESTS ANSWERS                      print the answers to record, given the Rust's\n  \
-         judge KIND --needs-rust                                   whether the right answers come from the Rust\n  \
+         judge KIND --needs-rust                                   whether the Rust is asked\n  \
          judge --questions FILE                                    print the request lines of a file of questions\n\
          KIND is one of: {}; N is at least 1",
         names.join(" ")
@@ -69,40 +70,46 @@ fn asked(kind: &str, n: &str, seed: &str) -> Result<(&'static Kind, usize, u64),
     Ok((known(kind)?, n, seed.parse().map_err(|_| usage())?))
 }
 
-/// Prints the questions of a file; empty lines and lines that begin with `#` are left out.
+/// Prints the questions of a file; empty lines and lines that begin with `#` are left out. A line `= TABLE` says what the
+/// field `=` behind a letter stands for from there on.
 fn questions(file: &str) -> Result<bool, String> {
     let text = std::fs::read_to_string(file).map_err(|e| format!("{file}: {e}"))?;
-    let mut requests = vec![];
+    let (mut requests, mut table) = (vec![], "=");
     for (i, line) in text.lines().enumerate() {
-        if !line.is_empty() && !line.starts_with('#') {
-            requests.push(
-                request::read(line).ok_or_else(|| format!("{file}:{}: not a question", i + 1))?,
-            );
+        if line.is_empty() || line.starts_with('#') {
+            continue;
         }
+        if let Some(named) = line.strip_prefix("= ") {
+            table = named;
+            continue;
+        }
+        let line = match line.split_once(" = ") {
+            Some((letter, rest)) if letter.len() == 1 => format!("{letter} {table} {rest}"),
+            _ => line.to_string(),
+        };
+        let request = request::read(&line);
+        requests.push(request.ok_or_else(|| format!("{file}:{}: not a question", i + 1))?);
     }
     emit(requests.into_iter())
 }
 
 /// Prints the right answer to each line of a file of requests: the judge's, or the listed one, else the Rust's. The Rust's
-/// answers stand in a file too.
+/// answers stand in a file too. Where the two do not agree there is nothing to print.
 fn record(kind: &Kind, requests: &str, answers: &str) -> Result<bool, String> {
     let (requests, answers) = (lines(requests)?, lines(answers)?);
     if requests.len() != answers.len() {
         return Err("there must be one answer for each request".to_string());
     }
-    emit(requests.iter().zip(answers).map(|(request, rust)| {
-        let (request, text) = (
-            String::from_utf8_lossy(request),
-            String::from_utf8_lossy(&rust),
-        );
-        match kind.right {
-            Right::Judge(answer) => answer(&request).into_bytes(),
-            Right::Rust(expected) => match expected(&request, &text) {
-                Some((_, answer)) => answer.into_bytes(),
-                None => rust,
-            },
-        }
-    }))
+    let mut right = vec![];
+    for (request, rust) in requests.iter().zip(&answers) {
+        let request = String::from_utf8_lossy(request);
+        let said = kind.right.said(&request, rust);
+        let answer = said.right();
+        let answer =
+            answer.ok_or_else(|| format!("two answers to {}", request::clear(&request)))?;
+        right.push(answer.to_vec());
+    }
+    emit(right.into_iter())
 }
 
 fn lines(file: &str) -> Result<Vec<Vec<u8>>, String> {

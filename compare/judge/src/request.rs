@@ -16,7 +16,8 @@ pub fn request(letter: &str, texts: &[&[u8]]) -> String {
     line
 }
 
-fn hex(text: &[u8]) -> String {
+/// The field of a request that stands for a text.
+pub fn hex(text: &[u8]) -> String {
     if text.is_empty() {
         return "-".to_string();
     }
@@ -26,15 +27,23 @@ fn hex(text: &[u8]) -> String {
         .collect()
 }
 
-fn unhex(field: &[u8]) -> Option<Vec<u8>> {
-    if field == b"-" {
-        return Some(vec![]);
-    }
+/// The text that a field stands for.
+pub fn unhex(field: &[u8]) -> Option<Vec<u8>> {
     let digit = |b: u8| (b as char).to_digit(16);
-    field
-        .chunks(2)
-        .map(|pair| Some((digit(pair[0])? * 16 + digit(*pair.get(1)?)?) as u8))
-        .collect()
+    match field {
+        b"" => None,
+        b"-" => Some(vec![]),
+        _ => field
+            .chunks(2)
+            .map(|pair| Some((digit(pair[0])? * 16 + digit(*pair.get(1)?)?) as u8))
+            .collect(),
+    }
+}
+
+/// The number that a field stands for: decimal digits alone.
+pub fn number(field: &str) -> Option<u64> {
+    let digits = field.bytes().all(|b| b.is_ascii_digit());
+    field.parse().ok().filter(|_| digits)
 }
 
 /// The letter of a request and its texts. None of a line that has a field which is no hex.
@@ -61,7 +70,7 @@ fn joined(nodes: &[Node], write: fn(&Node) -> String) -> String {
 /// The table that a field stands for.
 pub fn table(field: &str) -> Option<Table> {
     let (words, names) = field.split_once('/')?;
-    let node = |word: &str| word.parse().ok().map(Node::of_word);
+    let node = |word: &str| number(word).map(Node::of_word);
     Some(Table {
         nodes: match words {
             "-" => vec![],
@@ -71,18 +80,28 @@ pub fn table(field: &str) -> Option<Table> {
     })
 }
 
-/// A request in its readable form; every field behind the letter is hex or a table.
+/// The table that a readable form stands for.
+pub fn clear_table(form: &str) -> Table {
+    let field = read(form).and_then(|field| String::from_utf8(field).ok());
+    table(&field.unwrap()).unwrap()
+}
+
+/// A request in its readable form; every field behind the letter is hex or a table, but for numbers between a table and the
+/// last field.
 pub fn clear(request: &str) -> String {
-    let mut fields = request.split(' ');
-    let mut line = fields.next().unwrap_or_default().to_string();
-    for field in fields {
+    let fields: Vec<&str> = request.split(' ').collect();
+    let mut line = fields[0].to_string();
+    let mut behind_table = false;
+    for (i, field) in fields.iter().enumerate().skip(1) {
         line.push(' ');
+        let is_number = behind_table && i + 1 < fields.len();
         match (unhex(field.as_bytes()), table(field)) {
-            (Some(text), _) => line.push_str(&quoted(&text)),
+            (Some(text), _) if !is_number => line.push_str(&quoted(&text)),
             (None, Some(Table { nodes, names })) => {
+                behind_table = true;
                 line.push_str(&format!("{}/{}", joined(&nodes, braced), quoted(&names)))
             }
-            (None, None) => line.push_str(field),
+            _ => line.push_str(field),
         }
     }
     line

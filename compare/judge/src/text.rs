@@ -231,6 +231,22 @@ pub fn table_name(random: &mut Random, length: usize) -> Vec<u8> {
     name
 }
 
+/// A word for a table name: the short or the long form in any case, with the number, or with a 1 added or dropped.
+pub fn spelled(random: &mut Random, name: &[u8]) -> Vec<u8> {
+    let (stem, tail) = split_tail(name);
+    let mut word = stem.to_vec();
+    if random.one_in(2) {
+        word.retain(|b| !b.is_ascii_lowercase());
+    }
+    word = recased(random, word);
+    match tail {
+        b"" if random.one_in(2) => word.push(b'1'),
+        b"1" if random.one_in(2) => {}
+        _ => word.extend(tail),
+    }
+    word
+}
+
 /// A decimal number without a suffix.
 pub fn number(random: &mut Random) -> Vec<u8> {
     let mut text = random.pick::<&[u8]>(&[b"", b"", b"+", b"-"]).to_vec();

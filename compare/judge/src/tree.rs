@@ -1,10 +1,70 @@
-//! Random trees with good names, for tables that are accepted.
+//! Trees: all small ones, and random ones with good names, for tables that are accepted.
 
 use std::collections::HashSet;
 
 use crate::random::Random;
 use crate::table::{spellings, Node, Table};
 use crate::text::{random_text, table_name, ALL};
+
+/// The table of the program commandcheck.
+pub const COMMANDCHECK: &str = r#"{b 0 0 1 4},{l 4 0 1},{b 5 4 5 2},{bd 5 9 7 2},{l 5 14 2},{l 5 19 3},{l 4 24 4},{b 7 28 9 2},{l 7 35 5},{ld 2 42 6},{l 3 44 7}/"*IDNROUTeSENSeABORtCLOSeOPENVOLTageCURRentDCAC2""#;
+
+/// All ways to take one of each list.
+pub fn one_of_each<T: Copy + Send>(lists: Vec<Vec<T>>) -> impl Iterator<Item = Vec<T>> + Send {
+    let count: usize = lists.iter().map(Vec::len).product();
+    (0..count).map(move |mut i| {
+        let mut taken = vec![];
+        for list in &lists {
+            taken.push(list[i % list.len()]);
+            i /= list.len();
+        }
+        taken
+    })
+}
+
+/// All trees of that many nodes, each of which is default or not and has one of three names.
+pub fn all_trees(size: usize) -> impl Iterator<Item = Table> + Send {
+    let choices = [false, true].map(|default| [0, 1, 2].map(|name| (default, name)));
+    all_layouts(size).flat_map(move |nodes| {
+        one_of_each(vec![choices.concat(); size - 1]).map(move |choices| {
+            let mut nodes = nodes.clone();
+            for (node, (default, name)) in nodes.iter_mut().skip(1).zip(choices) {
+                node.default = default;
+                node.name_length = 1;
+                node.name_start = name;
+            }
+            Table::new(nodes, b"ABC")
+        })
+    })
+}
+
+/// All trees of that many nodes, without names.
+fn all_layouts(size: usize) -> impl Iterator<Item = Vec<Node>> + Send {
+    let leaf = Node::default();
+    let branch = |child_count| Node {
+        branch: true,
+        child_count,
+        ..leaf
+    };
+    let mut kinds = vec![leaf];
+    kinds.extend((0..size).map(branch));
+    one_of_each(vec![kinds; size]).filter_map(|mut nodes| {
+        lay_out(&mut nodes);
+        let table = Table::new(nodes, b"");
+        // What is no tree has a smaller fault than that of the names.
+        let tree = table.fault().unwrap_or(4) == 4;
+        tree.then_some(table.nodes)
+    })
+}
+
+/// Sets the first children so that the blocks follow each other.
+pub fn lay_out(nodes: &mut [Node]) {
+    let mut place = 1;
+    for node in nodes.iter_mut().filter(|node| node.branch) {
+        node.first_child = place.min(65_535);
+        place += node.child_count;
+    }
+}
 
 /// The least and the greatest number of children that a branch has.
 pub type Width = (usize, usize);

@@ -4,8 +4,7 @@ use super::{mixed, Cases, Right};
 use crate::random::Random;
 use crate::request::request;
 use crate::text::{
-    self, pairs, random_text, recased, split_tail, table_name, ALL, BORDERS, LONGEST,
-    LONGEST_ONE_IN,
+    self, pairs, random_text, recased, spelled, table_name, ALL, BORDERS, LONGEST, LONGEST_ONE_IN,
 };
 
 /// Names have no listed difference.
@@ -81,20 +80,4 @@ fn spelled_pair(random: &mut Random, _i: usize) -> Pair {
 
 fn damaged(random: &mut Random, text: Vec<u8>) -> Vec<u8> {
     text::damaged(random, b"ABCabc0123*_", text)
-}
-
-/// A word for a table name: the short or the long form in any case, with the number, or with a 1 added or dropped.
-fn spelled(random: &mut Random, name: &[u8]) -> Vec<u8> {
-    let (stem, tail) = split_tail(name);
-    let mut word = stem.to_vec();
-    if random.one_in(2) {
-        word.retain(|b| !b.is_ascii_lowercase());
-    }
-    word = recased(random, word);
-    match tail {
-        b"" if random.one_in(2) => word.push(b'1'),
-        b"1" if random.one_in(2) => {}
-        _ => word.extend(tail),
-    }
-    word
 }

@@ -2,10 +2,10 @@
 
 use super::{mixed, Cases, Right};
 use crate::random::Random;
-use crate::request::{read, table, table_field};
+use crate::request::{clear_table, table, table_field};
 use crate::table::{spellings, Node, Table};
 use crate::text::{self, begun, random_text, split_tail, ALL};
-use crate::tree::{accepted, put, tree};
+use crate::tree::{accepted, all_trees, lay_out, one_of_each, put, tree, COMMANDCHECK};
 
 pub const RIGHT: Right = Right::Judge(answer);
 
@@ -74,63 +74,6 @@ fn few(
     one_of_each(lists).map(|nodes| Table::new(nodes, names))
 }
 
-/// All ways to take one of each list.
-fn one_of_each<T: Copy + Send>(lists: Vec<Vec<T>>) -> impl Iterator<Item = Vec<T>> + Send {
-    let count: usize = lists.iter().map(Vec::len).product();
-    (0..count).map(move |mut i| {
-        let mut taken = vec![];
-        for list in &lists {
-            taken.push(list[i % list.len()]);
-            i /= list.len();
-        }
-        taken
-    })
-}
-
-/// All trees of that many nodes, each of which is default or not and has one of three names.
-fn all_trees(size: usize) -> impl Iterator<Item = Table> + Send {
-    let choices = [false, true].map(|default| [0, 1, 2].map(|name| (default, name)));
-    all_layouts(size).flat_map(move |nodes| {
-        one_of_each(vec![choices.concat(); size - 1]).map(move |choices| {
-            let mut nodes = nodes.clone();
-            for (node, (default, name)) in nodes.iter_mut().skip(1).zip(choices) {
-                node.default = default;
-                node.name_length = 1;
-                node.name_start = name;
-            }
-            Table::new(nodes, b"ABC")
-        })
-    })
-}
-
-/// All trees of that many nodes, without names.
-fn all_layouts(size: usize) -> impl Iterator<Item = Vec<Node>> + Send {
-    let leaf = Node::default();
-    let branch = |child_count| Node {
-        branch: true,
-        child_count,
-        ..leaf
-    };
-    let mut kinds = vec![leaf];
-    kinds.extend((0..size).map(branch));
-    one_of_each(vec![kinds; size]).filter_map(|mut nodes| {
-        lay_out(&mut nodes);
-        let table = Table::new(nodes, b"");
-        // What is no tree has a smaller fault than that of the names.
-        let tree = table.fault().unwrap_or(4) == 4;
-        tree.then_some(table.nodes)
-    })
-}
-
-/// Sets the first children so that the blocks follow each other.
-fn lay_out(nodes: &mut [Node]) {
-    let mut place = 1;
-    for node in nodes.iter_mut().filter(|node| node.branch) {
-        node.first_child = place.min(65_535);
-        place += node.child_count;
-    }
-}
-
 /// Accepted tables, one at least for each rule.
 const SAMPLES: [&str; 7] = [
     r#"{b 0 0 1}/-"#,
@@ -139,14 +82,8 @@ const SAMPLES: [&str; 7] = [
     r#"{b 0 0 1 1},{l 12 2 1}/"ab*BCDEFGHIJKL""#,
     r#"{b 0 0 1 4},{b 1 0 5},{b 1 1 5 1},{b 1 2 6},{b 1 3 6},{b 1 0 6}/"ABCD""#,
     r#"{b 0 0 1 2},{bd 1 0 3 2},{l 1 1},{bd 1 2 5 1},{l 2 3},{ld 1 5}/"ABCD2E""#,
-    r#"{b 0 0 1 4},{l 4 0 1},{b 5 4 5 2},{bd 5 9 7 2},{l 5 14 2},{l 5 19 3},{l 4 24 4},{b 7 28 9 2},{l 7 35 5},{ld 2 42 6},{l 3 44 7}/"*IDNROUTeSENSeABORtCLOSeOPENVOLTageCURRentDCAC2""#,
+    COMMANDCHECK,
 ];
-
-/// The table that a readable form stands for.
-fn clear_table(form: &str) -> Table {
-    let field = read(form).and_then(|field| String::from_utf8(field).ok());
-    table(&field.unwrap()).unwrap()
-}
 
 /// The sample with each bit of its words flipped, each field set to values around its own and at its limits, each byte of
 /// its names replaced, some nodes or names left out, or one node too many.
@@ -327,7 +264,7 @@ fn made(random: &mut Random, i: usize) -> Table {
 }
 
 /// A wide tree, a deep one or one between, with names of six letters; that two of them are the same is unlikely.
-fn greatest(random: &mut Random, size: usize) -> Table {
+pub fn greatest(random: &mut Random, size: usize) -> Table {
     let wide = (size - 1, size - 1);
     let width = random.pick(&[wide, (64, 64), (0, 9), (1, 3), (1, 1), (1, 1)]);
     let mut nodes = tree(random, size, width);
@@ -353,7 +290,7 @@ fn give_name(table: &mut Table, one: usize, other: usize) {
 }
 
 /// One fault, or what looks like one.
-fn damage(random: &mut Random, table: &mut Table) {
+pub fn damage(random: &mut Random, table: &mut Table) {
     let size = table.nodes.len();
     if size == 0 {
         return;

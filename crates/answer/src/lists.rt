@@ -102,7 +102,7 @@ fn put_end(out: &mut [u8], sink: Sink, place: usize) -> Sink {
 }
 
 // The last part, at a refusal.
-fn put_refused(out: &mut [u8], sink: Sink, e: ErrorCode) -> Sink {
+pub(crate) fn put_refused(out: &mut [u8], sink: Sink, e: ErrorCode) -> Sink {
     let shown = put_code(out, sink, b"refused ", e);
     put(out, shown, b"\n")
 }
@@ -288,7 +288,7 @@ fn without_sign(n: i64) -> u64 {
 }
 
 // A word and a number.
-fn put_number(out: &mut [u8], sink: Sink, word: &[u8], n: u64) -> Sink {
+pub(crate) fn put_number(out: &mut [u8], sink: Sink, word: &[u8], n: u64) -> Sink {
     let mut digits = [0u8; 20];
     let count = io::decimal(n, &mut digits);
     let begun = put(out, sink, word);

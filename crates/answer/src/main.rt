@@ -11,6 +11,7 @@ use lists::put_channels;
 use lists::put_numbers;
 use request::Text;
 use tables::check_table;
+use tables::resolve_alone;
 use tokenizer::Answer;
 use tokenizer::Step;
 
@@ -186,6 +187,7 @@ fn respond(line: &[u8], words: &mut [u64], text: &mut [u8], out: &mut [u8], sink
     match line[at] {
         b'M' => names(line, at + 1, text, out, sink),
         b'F' => check_table(line, at + 1, words, text, out, sink),
+        b'A' => resolve_alone(line, at + 1, words, text, out, sink),
         asked => respond_text(asked, line, at + 1, text, out, sink),
     }
 }

@@ -5,11 +5,16 @@ ghost use lib.ListN.{length};
 use crate::Sink;
 use crate::is_last;
 use crate::lists::put_code;
+use crate::lists::put_number;
+use crate::lists::put_refused;
 use crate::put;
 use crate::refuse;
+use crate::take_text;
 use request::Text;
+use request_table::Number;
 use request_table::Words;
 use table::Checked;
+use tree::Resolved;
 
 // F, a table: whether it is accepted, or its fault.
 pub(crate) fn check_table(
@@ -40,6 +45,136 @@ fn put_checked(out: &mut [u8], sink: Sink, checked: Checked) -> Sink {
             let shown = put_code(out, sink, b"fault ", e);
             put(out, shown, b"\n")
         }
+    }
+}
+
+// A, a table, a start and a header: the command that the header alone names from that branch of the table.
+pub(crate) fn resolve_alone(
+    line: &[u8],
+    at: usize,
+    words: &mut [u64],
+    text: &mut [u8],
+    out: &mut [u8],
+    sink: Sink,
+) -> Sink {
+    let taken = take_header(line, at, words, text);
+    if !taken.ok {
+        return refuse(out, sink);
+    }
+    put_resolved(out, sink, resolve_taken(words, text, taken))
+}
+
+// `command N event branch B`, with `query` in the place of `event` for a query; or `refused` and its number.
+fn put_resolved(out: &mut [u8], sink: Sink, resolved: Resolved) -> Sink {
+    match resolved {
+        Resolved::Command {
+            command,
+            query,
+            branch,
+        } => put_command(out, sink, command, query, branch),
+        Resolved::Refused(e) => put_refused(out, sink, e),
+    }
+}
+
+fn put_command(out: &mut [u8], sink: Sink, command: u16, query: bool, branch: usize) -> Sink {
+    let named = put_number(out, sink, b"command ", command as u64);
+    let formed = put_form(out, named, query);
+    let shown = put_number(out, formed, b" branch ", branch as u64);
+    put(out, shown, b"\n")
+}
+
+// The form of a command.
+fn put_form(out: &mut [u8], sink: Sink, query: bool) -> Sink {
+    if query {
+        return put(out, sink, b" query");
+    }
+    put(out, sink, b" event")
+}
+
+// Whether a table, a start and a header were taken from a line; how many words the table has in the word buffer, the
+// place behind its names in the text buffer, the start, and the place behind the header, which follows the names.
+struct TakenHeader {
+    ok: bool,
+    nodes: usize,
+    names: usize,
+    start: u64,
+    end: usize,
+}
+
+// Takes what is left of a line as a table, a start and a header in hex, which is written behind the names.
+fn take_header(line: &[u8], at: usize, words: &mut [u64], text: &mut [u8]) -> TakenHeader
+    ensures { λ r. ⌜ (r .nodes ≤ length (now (words .exit))) × (r .names ≤ r .end) × (r .end ≤ length (now (text .exit))) ⌝ }
+{
+    let table = take_table(line, at, words, text);
+    if !table.ok {
+        return no_header();
+    }
+    let start = take_number(line, table.next);
+    if !start.ok {
+        return no_header();
+    }
+    let header = take_text(line, start.next, text, table.names);
+    if !header.ok {
+        return no_header();
+    }
+    if !is_last(line, header.next) {
+        return no_header();
+    }
+    TakenHeader {
+        ok: true,
+        nodes: table.nodes,
+        names: table.names,
+        start: start.value,
+        end: header.end,
+    }
+}
+
+// What is said of a line that has not exactly these fields.
+fn no_header() -> TakenHeader
+    ensures { λ r. ⌜ (r .nodes ≡ 0) × (r .names ≡ 0) × (r .end ≡ 0) ⌝ }
+{
+    TakenHeader {
+        ok: false,
+        nodes: 0,
+        names: 0,
+        start: 0,
+        end: 0,
+    }
+}
+
+// What resolution says of a header that was taken.
+fn resolve_taken(words: &[u64], text: &[u8], taken: TakenHeader) -> Resolved
+    requires { ⌜ (taken .nodes ≤ length (now words)) × (taken .names ≤ taken .end) × (taken .end ≤ length (now text)) ⌝ }
+{
+    let nodes = taken.nodes;
+    let names = taken.names;
+    let end = taken.end;
+    let start = taken.start as usize;
+    tree::resolve(&words[..nodes], &text[..names], start, &text[names..end])
+}
+
+// Whether a number was taken from a line; the place behind its field in the line, and the number.
+struct TakenNumber {
+    ok: bool,
+    next: usize,
+    value: u64,
+}
+
+// Takes the next field of a line as a decimal number.
+fn take_number(line: &[u8], at: usize) -> TakenNumber {
+    let part = request::field(line, at);
+    let next = part.end;
+    let Number::Value(value) = request_table::read_number(line, part.start, next) else {
+        return TakenNumber {
+            ok: false,
+            next,
+            value: 0,
+        };
+    };
+    TakenNumber {
+        ok: true,
+        next,
+        value,
     }
 }
 

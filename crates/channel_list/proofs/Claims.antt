@@ -13,7 +13,7 @@ use Rattle.util.proofs.Walks.{arrives}
 use Rattle.util.specs.Run.{run, runEnd, standsAt}
 use Rattle.token.specs.View.{partOf}
 use Rattle.item.specs.Follow.{endsData, followed}
-use Rattle.data.specs.String.{inString, stringEnd, closed, stringData}
+use Rattle.enclosed.specs.String.{inString, stringEnd, closed, stringData}
 use Rattle.channel_spec.specs.Spec.{inSpec, bang, bangs, dimensionOf, specTo, specAt, isEmpty}
 use Rattle.channel_list.specs.List.{stateOf, opened, taken, refusal, ended, beginsSpec, rangeOf, rangeTo, specsFrom, specsAt, pathOf, pathAt, itemAt, commaBefore, step}
 use Rattle.channel_list.specs.Claims.{stateBehind, behindComma, Item, Rows, Claims}

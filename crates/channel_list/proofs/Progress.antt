@@ -20,8 +20,8 @@ use Rattle.token.specs.declared.Token.the-variants.{StringProgramData}
 use Rattle.item.specs.declared.Read.{Read}
 use Rattle.item.specs.declared.Read.the-variants as read
 use Rattle.item.proofs.Progress.{run-moves}
-use Rattle.data.specs.String.{stringEnd, stringData}
-use Rattle.data.proofs.Forms.{string-form}
+use Rattle.enclosed.specs.String.{stringEnd, stringData}
+use Rattle.enclosed.proofs.Forms.{string-form}
 use Rattle.channel_spec.specs.Spec.{inSpec, specTo, specAt, isEmpty}
 use Rattle.channel_spec.specs.declared.ChannelSpec.{ChannelSpec}
 use Rattle.channel_list.specs.List.{taken, refusal, ended, beginsSpec, rangeOf, rangeTo, specsFrom, specsAt, pathOf, pathAt, itemAt, commaBefore, step}

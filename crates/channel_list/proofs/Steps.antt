@@ -24,7 +24,7 @@ use Rattle.token.specs.declared.Token.the-variants.{StringProgramData}
 use Rattle.item.specs.declared.Read.{Read}
 use Rattle.item.specs.declared.Read.the-variants as read
 use Rattle.item.proofs.Accepted.{only-then, only-else, only-followed}
-use Rattle.data.specs.String.{stringEnd, closed, stringData}
+use Rattle.enclosed.specs.String.{stringEnd, closed, stringData}
 use Rattle.channel_spec.specs.Spec.{specAt, isEmpty}
 use Rattle.channel_spec.specs.declared.ChannelSpec.{ChannelSpec}
 use Rattle.channel_list.specs.List.{stateOf, opened, taken, refusal, ended, beginsSpec, rangeOf, rangeTo, specsFrom, specsAt, pathOf, pathAt, itemAt, commaBefore, step}

@@ -13,7 +13,7 @@ use Rattle.util.specs.Walk.{after}
 use Rattle.util.specs.Run.{standsAt}
 use Rattle.token.specs.View.{viewOf}
 use Rattle.item.specs.Form.{Follows}
-use Rattle.data.specs.Form.{StringForm}
+use Rattle.enclosed.specs.Form.{StringForm}
 use Rattle.channel_spec.specs.Spec.{specAt}
 use Rattle.channel_spec.specs.declared.ChannelSpec as spec
 use Rattle.channel_list.specs.List.{stateOf, opened, beginsSpec, step}

@@ -12,7 +12,7 @@ use Rattle.util.specs.Run.{standsAt}
 use Rattle.token.specs.Token.{viewIn}
 use Rattle.item.specs.declared.Read.{Read}
 use Rattle.item.specs.declared.Read.the-variants as read
-use Rattle.data.specs.String.{stringData}
+use Rattle.enclosed.specs.String.{stringData}
 use Rattle.channel_spec.specs.Spec.{specAt, isEmpty}
 use Rattle.channel_spec.specs.declared.ChannelSpec.{ChannelSpec}
 use Rattle.channel_list.specs.declared.State.{State}

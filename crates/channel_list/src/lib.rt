@@ -149,7 +149,7 @@ fn range(s: &[u8], at: usize, state: State, begin: ChannelSpec) -> Step
 fn path(s: &[u8], at: usize, state: State, quote: u8) -> Step
     ensures { λ r. ⌜ r ≡ pathAt quote (now (s .entry)) state at ⌝ }
 {
-    match data::read_string_data(s, at, quote) {
+    match enclosed::read_string_data(s, at, quote) {
         Read::Token { token, next: _ } => {
             let view = token.view();
             taken(Token::PathName(view), view.end + 1)

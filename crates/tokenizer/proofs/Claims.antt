@@ -18,8 +18,8 @@ use Rattle.number.specs.Number.{digits, foundAt, unsignedOf, unsignedAt}
 use Rattle.item.specs.Follow.{endsData, followed}
 use Rattle.item.specs.Word.{starEnd, mnemonic}
 use Rattle.decimal.specs.Decimal.{wholeEnd, hasWhole, fractionEnd, mantissa, beginsExponent, exponent, withExponent, number, inSuffix, beginsSuffix, suffixed, suffixData, numericTo, numericData}
-use Rattle.data.specs.Nondecimal.{nondecimalOf, nondecimalData}
-use Rattle.data.specs.Block.{payload, definite, indefinite, arbitraryData, hashBy, hashData}
+use Rattle.hash.specs.Nondecimal.{nondecimalOf, nondecimalData}
+use Rattle.hash.specs.Block.{payload, definite, indefinite, arbitraryData, hashBy, hashData}
 use Rattle.tokenizer.specs.Step.{stateOf, inHeader, inCommon, taken, refusal, ended, readAs, outside, byKind, step}
 use Rattle.tokenizer.specs.Claims.{stateBehind, Rows, Claims}
 use Rattle.tokenizer.specs.declared.State.{State}

@@ -24,10 +24,11 @@ use Rattle.item.specs.declared.Read.the-variants as read
 use Rattle.item.proofs.Progress.{Behind, run-moves, common-behind, header-behind, character-behind}
 use Rattle.decimal.specs.Decimal.{numericData}
 use Rattle.decimal.proofs.Progress.{numeric-behind}
-use Rattle.data.specs.String.{stringData}
-use Rattle.data.specs.Block.{hashData}
-use Rattle.data.specs.Expression.{expressionData}
-use Rattle.data.proofs.Progress.{expression-behind, string-behind, hash-behind}
+use Rattle.enclosed.specs.String.{stringData}
+use Rattle.enclosed.specs.Expression.{expressionData}
+use Rattle.enclosed.proofs.Progress.{expression-behind, string-behind}
+use Rattle.hash.specs.Block.{hashData}
+use Rattle.hash.proofs.Progress.{hash-behind}
 use Rattle.tokenizer.specs.Step.{inHeader, inCommon, taken, refusal, ended, readAs, newlineBefore, followsColon, colonBefore, followsQuery, questionBefore, commaTo, commaBefore, wordAt, outside, byKind, step}
 use Rattle.tokenizer.specs.declared.State.{State}
 use Rattle.tokenizer.specs.declared.Step.{Step}

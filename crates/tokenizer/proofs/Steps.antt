@@ -15,9 +15,9 @@ use Rattle.token.specs.declared.Token.{Token}
 use Rattle.token.specs.declared.Token.the-variants.{HeaderMnemonicSeparator, HeaderQuerySuffix, ProgramMessageUnitSeparator, ProgramHeaderSeparator, ProgramDataSeparator}
 use Rattle.item.specs.Word.{mnemonic, characterData}
 use Rattle.decimal.specs.Decimal.{numericData}
-use Rattle.data.specs.String.{stringData}
-use Rattle.data.specs.Block.{hashData}
-use Rattle.data.specs.Expression.{expressionData}
+use Rattle.enclosed.specs.String.{stringData}
+use Rattle.enclosed.specs.Expression.{expressionData}
+use Rattle.hash.specs.Block.{hashData}
 use Rattle.tokenizer.specs.Step.{stateOf, inHeader, inCommon, ofMessage, ofData, taken, refusal, ended, readAs, newlineBefore, followsColon, colonBefore, followsQuery, questionBefore, commaTo, commaBefore, wordAt, outside, byKind, step}
 use Rattle.item.specs.declared.Read.{Read}
 use Rattle.item.specs.declared.Read.the-variants as read

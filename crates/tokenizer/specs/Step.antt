@@ -16,9 +16,9 @@ use Rattle.item.specs.Word.{mnemonic, characterData}
 use Rattle.item.specs.declared.Read.{Read}
 use Rattle.item.specs.declared.Read.the-variants as read
 use Rattle.decimal.specs.Decimal.{numericData}
-use Rattle.data.specs.String.{stringData}
-use Rattle.data.specs.Block.{hashData}
-use Rattle.data.specs.Expression.{expressionData}
+use Rattle.enclosed.specs.String.{stringData}
+use Rattle.enclosed.specs.Expression.{expressionData}
+use Rattle.hash.specs.Block.{hashData}
 use Rattle.tokenizer.specs.declared.State.{State}
 use Rattle.tokenizer.specs.declared.Answer.the-variants as answer
 use Rattle.tokenizer.specs.declared.Step.{Step}

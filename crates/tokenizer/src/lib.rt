@@ -3,8 +3,8 @@ ghost use mathlib.Core.Path.{_≡_};
 ghost use mathlib.Core.Bool.{true, false};
 ghost use Rattle.tokenizer.specs.Step.{stateOf, ofMessage, ofData, taken, refusal, readAs, newlineBefore, followsColon, colonBefore, followsQuery, questionBefore, commaBefore, wordAt, outside, step};
 ghost use Rattle.decimal.specs.Decimal.{numericData};
-ghost use Rattle.data.specs.String.{stringData};
-ghost use Rattle.data.specs.Block.{hashData};
+ghost use Rattle.enclosed.specs.String.{stringData};
+ghost use Rattle.hash.specs.Block.{hashData};
 use error::ErrorCode;
 use item::Read;
 use token::Token;
@@ -80,7 +80,7 @@ pub fn next(s: &[u8], state: State) -> Step
         kind::PARENTHESIS => form(
             s,
             state,
-            data::read_expression_data(s, at + 1),
+            enclosed::read_expression_data(s, at + 1),
             state.in_common,
         ),
         kind::OTHER => refused(s, state, ErrorCode::SyntaxError),
@@ -214,7 +214,7 @@ fn hash(s: &[u8], at: usize, state: State) -> Step
     if state.in_header {
         return refused(s, state, ErrorCode::CommandHeaderError);
     }
-    form(s, state, data::read_hash_data(s, at), state.in_common)
+    form(s, state, hash::read_hash_data(s, at), state.in_common)
 }
 
 // A quote before a place begins a string.
@@ -227,7 +227,7 @@ fn string(s: &[u8], at: usize, state: State, quote: u8) -> Step
     form(
         s,
         state,
-        data::read_string_data(s, at, quote),
+        enclosed::read_string_data(s, at, quote),
         state.in_common,
     )
 }

@@ -1,0 +1,4 @@
+pub mod String
+pub mod Expression
+pub mod Form
+pub mod Claims

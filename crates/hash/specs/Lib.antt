@@ -1,0 +1,4 @@
+pub mod Nondecimal
+pub mod Block
+pub mod Form
+pub mod Claims

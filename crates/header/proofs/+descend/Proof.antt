@@ -1,7 +1,6 @@
 use Rattle.header.proofs.Descents.{child-in′, down-laws, descent-laws}
 use Prim.Native.Nat.{ℕ, _-_, _<_}
 use lib.ListN.{length}
-use borrow.Author.Needs.{needs}
 use borrow.Fn.Kinds.{In}
 use borrow.Fn.PlainCycle.{Measures, is, falls, and}
 use Rattle.header.proofs.descend.Reads as descend
@@ -100,7 +99,7 @@ descend-enum-known-k-3 : (t : ℕ) → descend-lts.Need-enum-known-k-3 (descend-
 descend-enum-known-k-3 t c = search descent-laws
 
 descend-descend-requires-3 : (t : ℕ) → descend-lts.Need-descend-requires-3 (descend-R t) (descend-at t) descend.Post
-descend-descend-requires-3 t c κs = (search down-laws, child-in′ _ _ _ _ (search needs) _ (c .before .before .before .default-child2 .ensures))
+descend-descend-requires-3 t c κs = (search down-laws, search child-in′)
 
 descend-returns-2 : (t : ℕ) → descend-lts.Need-returns-2 (descend-R t) (descend-at t) descend.Post
 descend-returns-2 t c = search descent-laws

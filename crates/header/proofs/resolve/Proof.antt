@@ -36,7 +36,7 @@ stands-requires : tie.Need-stands-requires
 stands-requires c κs = search header-laws
 
 descend-requires-2 : tie.Need-descend-requires-2
-descend-requires-2 c κs = search (root-in′, c .before .before .before .before .before .before .before .before .is-branch .ensures, c .before .before .before .before .before .before .before .if1 .left)
+descend-requires-2 c κs = search root-in′
 
 keep-requires : tie.Need-keep-requires
 keep-requires c κs = search header-laws

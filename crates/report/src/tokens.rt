@@ -6,6 +6,7 @@ ghost use lib.ListN.{length, take, drop};
 ghost use Rattle.io.specs.Counts.{Counts};
 ghost use Rattle.report.specs.Added.{Added};
 ghost use Rattle.report.specs.Tokens.{viewText, tokenText, placeText, flagsText, takenText, endText, refusedText, partText};
+use crate::write::Line;
 use crate::write::add;
 use crate::write::add_number;
 use crate::write::add_signed;
@@ -31,8 +32,7 @@ pub fn token_part(step: Step, line: &mut [u8; 128]) -> usize
 }
 
 // A token and the state behind it.
-fn taken_part(line: &mut [u8], token: Token, state: State) -> usize
-    requires { ⌜ 128 ≤ length (now line) ⌝ }
+fn taken_part(line: &mut Line, token: Token, state: State) -> usize
     ensures { λ r. ⌜ Added (now (line .entry)) 0 (takenText token state) (now (line .exit)) r ⌝ }
 {
     let shown = add_token(line, 0, token);
@@ -41,8 +41,7 @@ fn taken_part(line: &mut [u8], token: Token, state: State) -> usize
     add(line, flags, b" | ")
 }
 
-fn end_part(line: &mut [u8], place: usize) -> usize
-    requires { ⌜ 128 ≤ length (now line) ⌝ }
+fn end_part(line: &mut Line, place: usize) -> usize
     ensures { λ r. ⌜ Added (now (line .entry)) 0 (endText place) (now (line .exit)) r ⌝ }
 {
     let word = add(line, 0, b"end");
@@ -50,8 +49,7 @@ fn end_part(line: &mut [u8], place: usize) -> usize
     add(line, shown, b"\n")
 }
 
-fn refused_part(line: &mut [u8], e: ErrorCode) -> usize
-    requires { ⌜ 128 ≤ length (now line) ⌝ }
+fn refused_part(line: &mut Line, e: ErrorCode) -> usize
     ensures { λ r. ⌜ Added (now (line .entry)) 0 (refusedText e) (now (line .exit)) r ⌝ }
 {
     let word = add(line, 0, b"refused ");
@@ -60,8 +58,8 @@ fn refused_part(line: &mut [u8], e: ErrorCode) -> usize
 }
 
 // The word of a token's kind, with its views or its value.
-fn add_token(line: &mut [u8], at: usize, token: Token) -> usize
-    requires { ⌜ at + 94 ≤ length (now line) ⌝ }
+fn add_token(line: &mut Line, at: usize, token: Token) -> usize
+    requires { ⌜ at + 94 ≤ 128 ⌝ }
     ensures { λ r. ⌜ (Added (now (line .entry)) at (tokenText token) (now (line .exit)) r) × (r ≤ at + 94) ⌝ }
 {
     match token {
@@ -84,24 +82,24 @@ fn add_token(line: &mut [u8], at: usize, token: Token) -> usize
 }
 
 // A word and a view.
-fn add_item(line: &mut [u8], at: usize, word: &[u8], view: View) -> usize
-    requires { ⌜ at + length (now word) + 42 ≤ length (now line) ⌝ }
+fn add_item(line: &mut Line, at: usize, word: &[u8], view: View) -> usize
+    requires { ⌜ at + length (now word) + 42 ≤ 128 ⌝ }
     ensures { λ r. ⌜ (Added (now (line .entry)) at (now (word .entry) ++ viewText view) (now (line .exit)) r) × (r ≤ at + length (now (word .entry)) + 42) ⌝ }
 {
     let shown = add(line, at, word);
     add_view(line, shown, view)
 }
 
-fn add_suffixed(line: &mut [u8], at: usize, number: View, suffix: View) -> usize
-    requires { ⌜ at + 94 ≤ length (now line) ⌝ }
+fn add_suffixed(line: &mut Line, at: usize, number: View, suffix: View) -> usize
+    requires { ⌜ at + 94 ≤ 128 ⌝ }
     ensures { λ r. ⌜ (Added (now (line .entry)) at (tokenText (Token.DecimalNumericSuffixProgramData number suffix)) (now (line .exit)) r) × (r ≤ at + 94) ⌝ }
 {
     let shown = add_item(line, at, b"suffixed ", number);
     add_item(line, shown, b" ", suffix)
 }
 
-fn add_radix(line: &mut [u8], at: usize, value: u64) -> usize
-    requires { ⌜ at + 26 ≤ length (now line) ⌝ }
+fn add_radix(line: &mut Line, at: usize, value: u64) -> usize
+    requires { ⌜ at + 26 ≤ 128 ⌝ }
     ensures { λ r. ⌜ (Added (now (line .entry)) at (tokenText (Token.NonDecimalNumericProgramData value)) (now (line .exit)) r) × (r ≤ at + 26) ⌝ }
 {
     let shown = add(line, at, b"radix ");
@@ -109,8 +107,8 @@ fn add_radix(line: &mut [u8], at: usize, value: u64) -> usize
 }
 
 // `start..end`
-fn add_view(line: &mut [u8], at: usize, view: View) -> usize
-    requires { ⌜ at + 42 ≤ length (now line) ⌝ }
+fn add_view(line: &mut Line, at: usize, view: View) -> usize
+    requires { ⌜ at + 42 ≤ 128 ⌝ }
     ensures { λ r. ⌜ (Added (now (line .entry)) at (viewText view) (now (line .exit)) r) × (r ≤ at + 42) ⌝ }
 {
     let start = add_number(line, at, view.start as u64);
@@ -119,8 +117,8 @@ fn add_view(line: &mut [u8], at: usize, view: View) -> usize
 }
 
 // ` @place`
-fn add_place(line: &mut [u8], at: usize, place: usize) -> usize
-    requires { ⌜ at + 22 ≤ length (now line) ⌝ }
+fn add_place(line: &mut Line, at: usize, place: usize) -> usize
+    requires { ⌜ at + 22 ≤ 128 ⌝ }
     ensures { λ r. ⌜ (Added (now (line .entry)) at (placeText place) (now (line .exit)) r) × (r ≤ at + 22) ⌝ }
 {
     let shown = add(line, at, b" @");
@@ -128,8 +126,8 @@ fn add_place(line: &mut [u8], at: usize, place: usize) -> usize
 }
 
 // Where the state is: out of a header, in that of a common command, or in another.
-fn add_flags(line: &mut [u8], at: usize, in_header: bool, in_common: bool) -> usize
-    requires { ⌜ at + 3 ≤ length (now line) ⌝ }
+fn add_flags(line: &mut Line, at: usize, in_header: bool, in_common: bool) -> usize
+    requires { ⌜ at + 3 ≤ 128 ⌝ }
     ensures { λ r. ⌜ (Added (now (line .entry)) at (flagsText in_header in_common) (now (line .exit)) r) × (r ≤ at + 3) ⌝ }
 {
     if !in_header {

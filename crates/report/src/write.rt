@@ -6,8 +6,19 @@ ghost use lib.ListN.{length};
 ghost use Rattle.report.specs.Added.{Added};
 ghost use Rattle.report.specs.Number.{decimal, signed};
 
+// The line that a part is written to.
+pub(crate) type Line = [u8; 128];
+
 // Writes a text to a line at a place, and answers the place behind it.
-pub(crate) fn add(line: &mut [u8], at: usize, text: &[u8]) -> usize
+pub(crate) fn add(line: &mut Line, at: usize, text: &[u8]) -> usize
+    requires { ⌜ at + length (now text) ≤ 128 ⌝ }
+    ensures { λ r. ⌜ (Added (now (line .entry)) at (now (text .entry)) (now (line .exit)) r) × (r ≡ at + length (now (text .entry))) ⌝ }
+{
+    copy(line, at, text)
+}
+
+// Copies a text, byte by byte.
+fn copy(line: &mut [u8], at: usize, text: &[u8]) -> usize
     requires { ⌜ at + length (now text) ≤ length (now line) ⌝ }
     ensures { λ r. ⌜ (Added (now (line .entry)) at (now (text .entry)) (now (line .exit)) r) × (r ≡ at + length (now (text .entry))) ⌝ }
 {
@@ -20,8 +31,8 @@ pub(crate) fn add(line: &mut [u8], at: usize, text: &[u8]) -> usize
 }
 
 // A number in decimal, of 20 digits at most.
-pub(crate) fn add_number(line: &mut [u8], at: usize, n: u64) -> usize
-    requires { ⌜ at + 20 ≤ length (now line) ⌝ }
+pub(crate) fn add_number(line: &mut Line, at: usize, n: u64) -> usize
+    requires { ⌜ at + 20 ≤ 128 ⌝ }
     ensures { λ r. ⌜ (Added (now (line .entry)) at (decimal n) (now (line .exit)) r) × (r ≤ at + 20) ⌝ }
 {
     let mut digits = [0u8; 20];
@@ -30,8 +41,8 @@ pub(crate) fn add_number(line: &mut [u8], at: usize, n: u64) -> usize
 }
 
 // A number in decimal, with a minus in front where it is below zero.
-pub(crate) fn add_signed(line: &mut [u8], at: usize, n: i16) -> usize
-    requires { ⌜ at + 21 ≤ length (now line) ⌝ }
+pub(crate) fn add_signed(line: &mut Line, at: usize, n: i16) -> usize
+    requires { ⌜ at + 21 ≤ 128 ⌝ }
     ensures { λ r. ⌜ (Added (now (line .entry)) at (signed n) (now (line .exit)) r) × (r ≤ at + 21) ⌝ }
 {
     if n < 0 {

@@ -8,9 +8,6 @@ slice-aggregate-add c = search laws
 add-requires : tie.Need-add-requires
 add-requires c κs = search laws
 
-same-length : tie.Need-same-length
-same-length c = search laws
-
 returns : tie.Need-returns
 returns c = search laws
 
@@ -19,9 +16,6 @@ slice-aggregate-add-2 c = search laws
 
 add-requires-2 : tie.Need-add-requires-2
 add-requires-2 c κs = search laws
-
-same-length-2 : tie.Need-same-length-2
-same-length-2 c = search laws
 
 returns-2 : tie.Need-returns-2
 returns-2 c = search laws
@@ -32,9 +26,6 @@ slice-aggregate-add-3 c = search laws
 add-requires-3 : tie.Need-add-requires-3
 add-requires-3 c κs = search laws
 
-same-length-3 : tie.Need-same-length-3
-same-length-3 c = search laws
-
 returns-3 : tie.Need-returns-3
 returns-3 c = search laws
 
@@ -44,13 +35,10 @@ add-flags-spec =
     (tie.spec
     slice-aggregate-add
     add-requires
-    same-length
     returns
     slice-aggregate-add-2
     add-requires-2
-    same-length-2
     returns-2
     slice-aggregate-add-3
     add-requires-3
-    same-length-3
     returns-3)

@@ -8,11 +8,8 @@ add-requires c κs = search laws
 add-view-requires : tie.Need-add-view-requires
 add-view-requires c κs = search laws
 
-same-length : tie.Need-same-length
-same-length c = search laws
-
 returns : tie.Need-returns
 returns c = search laws
 
 pub add-item-spec : {M : Type 1} → statement M
-add-item-spec = tie.close (tie.spec add-requires add-view-requires same-length returns)
+add-item-spec = tie.close (tie.spec add-requires add-view-requires returns)

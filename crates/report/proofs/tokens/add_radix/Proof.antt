@@ -11,12 +11,8 @@ add-requires c κs = search laws
 add-number-requires : tie.Need-add-number-requires
 add-number-requires c κs = search laws
 
-same-length : tie.Need-same-length
-same-length c = search laws
-
 returns : tie.Need-returns
 returns c = search laws
 
 pub add-radix-spec : {M : Type 1} → statement M
-add-radix-spec =
-    tie.close (tie.spec slice-aggregate-add add-requires add-number-requires same-length returns)
+add-radix-spec = tie.close (tie.spec slice-aggregate-add add-requires add-number-requires returns)

@@ -14,9 +14,6 @@ slice-aggregate-add-item-2 c = search laws
 add-item-requires-2 : tie.Need-add-item-requires-2
 add-item-requires-2 c κs = search laws
 
-same-length : tie.Need-same-length
-same-length c = search laws
-
 returns : tie.Need-returns
 returns c = search laws
 
@@ -28,5 +25,4 @@ add-suffixed-spec =
     add-item-requires
     slice-aggregate-add-item-2
     add-item-requires-2
-    same-length
     returns)

@@ -113,80 +113,41 @@ slice-aggregate-add-item-6 c = search laws
 add-item-requires-6 : tie.Need-add-item-requires-6
 add-item-requires-6 c κs = search laws
 
-same-length : tie.Need-same-length
-same-length c = search laws
-
 returns : tie.Need-returns
 returns c = search laws
-
-same-length-2 : tie.Need-same-length-2
-same-length-2 c = search laws
 
 returns-2 : tie.Need-returns-2
 returns-2 c = search laws
 
-same-length-3 : tie.Need-same-length-3
-same-length-3 c = search laws
-
 returns-3 : tie.Need-returns-3
 returns-3 c = search laws
-
-same-length-4 : tie.Need-same-length-4
-same-length-4 c = search laws
 
 returns-4 : tie.Need-returns-4
 returns-4 c = search laws
 
-same-length-5 : tie.Need-same-length-5
-same-length-5 c = search laws
-
 returns-5 : tie.Need-returns-5
 returns-5 c = search laws
-
-same-length-6 : tie.Need-same-length-6
-same-length-6 c = search laws
 
 returns-6 : tie.Need-returns-6
 returns-6 c = search laws
 
-same-length-7 : tie.Need-same-length-7
-same-length-7 c = search laws
-
 returns-7 : tie.Need-returns-7
 returns-7 c = search laws
-
-same-length-8 : tie.Need-same-length-8
-same-length-8 c = search laws
 
 returns-8 : tie.Need-returns-8
 returns-8 c = search laws
 
-same-length-9 : tie.Need-same-length-9
-same-length-9 c = search laws
-
 returns-9 : tie.Need-returns-9
 returns-9 c = search laws
-
-same-length-10 : tie.Need-same-length-10
-same-length-10 c = search laws
 
 returns-10 : tie.Need-returns-10
 returns-10 c = search laws
 
-same-length-11 : tie.Need-same-length-11
-same-length-11 c = search laws
-
 returns-11 : tie.Need-returns-11
 returns-11 c = search laws
 
-same-length-12 : tie.Need-same-length-12
-same-length-12 c = search laws
-
 returns-12 : tie.Need-returns-12
 returns-12 c = search laws
-
-same-length-13 : tie.Need-same-length-13
-same-length-13 c = search laws
 
 returns-13 : tie.Need-returns-13
 returns-13 c = search laws
@@ -232,29 +193,16 @@ add-token-spec =
     enum-known-token-8
     slice-aggregate-add-item-6
     add-item-requires-6
-    same-length
     returns
-    same-length-2
     returns-2
-    same-length-3
     returns-3
-    same-length-4
     returns-4
-    same-length-5
     returns-5
-    same-length-6
     returns-6
-    same-length-7
     returns-7
-    same-length-8
     returns-8
-    same-length-9
     returns-9
-    same-length-10
     returns-10
-    same-length-11
     returns-11
-    same-length-12
     returns-12
-    same-length-13
     returns-13)

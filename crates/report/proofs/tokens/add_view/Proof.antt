@@ -14,19 +14,10 @@ add-requires c κs = search laws
 add-number-requires-2 : tie.Need-add-number-requires-2
 add-number-requires-2 c κs = search laws
 
-same-length : tie.Need-same-length
-same-length c = search laws
-
 returns : tie.Need-returns
 returns c = search laws
 
 pub add-view-spec : {M : Type 1} → statement M
 add-view-spec =
     tie.close
-    (tie.spec
-    add-number-requires
-    slice-aggregate-add
-    add-requires
-    add-number-requires-2
-    same-length
-    returns)
+    (tie.spec add-number-requires slice-aggregate-add add-requires add-number-requires-2 returns)

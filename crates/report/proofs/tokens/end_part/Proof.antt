@@ -17,9 +17,6 @@ slice-aggregate-add-2 c = search laws
 add-requires-2 : tie.Need-add-requires-2
 add-requires-2 c κs = search laws
 
-same-length : tie.Need-same-length
-same-length c = search laws
-
 returns : tie.Need-returns
 returns c = search laws
 
@@ -32,5 +29,4 @@ end-part-spec =
     add-place-requires
     slice-aggregate-add-2
     add-requires-2
-    same-length
     returns)

@@ -17,9 +17,6 @@ slice-aggregate-add c = search laws
 add-requires : tie.Need-add-requires
 add-requires c κs = search laws
 
-same-length : tie.Need-same-length
-same-length c = search laws
-
 returns : tie.Need-returns
 returns c = search laws
 
@@ -32,5 +29,4 @@ taken-part-spec =
     add-flags-requires
     slice-aggregate-add
     add-requires
-    same-length
     returns)

@@ -14,19 +14,10 @@ slice-aggregate-add c = search laws
 add-requires : tie.Need-add-requires
 add-requires c κs = search laws
 
-same-length : tie.Need-same-length
-same-length c = search laws
-
 returns : tie.Need-returns
 returns c = search laws
 
 pub add-number-spec : {M : Type 1} → statement M
 add-number-spec =
     tie.close
-    (tie.spec
-    decimal-requires
-    array-share-prefix-digits
-    slice-aggregate-add
-    add-requires
-    same-length
-    returns)
+    (tie.spec decimal-requires array-share-prefix-digits slice-aggregate-add add-requires returns)

@@ -14,9 +14,6 @@ without-sign-requires c κs = search laws
 add-number-requires : tie.Need-add-number-requires
 add-number-requires c κs = search laws
 
-same-length : tie.Need-same-length
-same-length c = search laws
-
 returns : tie.Need-returns
 returns c = search laws
 
@@ -25,9 +22,6 @@ without-sign-requires-2 c κs = search laws
 
 add-number-requires-2 : tie.Need-add-number-requires-2
 add-number-requires-2 c κs = search laws
-
-same-length-2 : tie.Need-same-length-2
-same-length-2 c = search laws
 
 returns-2 : tie.Need-returns-2
 returns-2 c = search laws
@@ -40,9 +34,7 @@ add-signed-spec =
     add-requires
     without-sign-requires
     add-number-requires
-    same-length
     returns
     without-sign-requires-2
     add-number-requires-2
-    same-length-2
     returns-2)

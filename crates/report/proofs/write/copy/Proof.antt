@@ -2,8 +2,8 @@ use Prim.Native.Nat.{_-_, _≤_}
 use mathlib.Core.Path.{_≡_}
 use lib.ListN.{length}
 use Rattle.report.proofs.Adds.{Begun, laws}
-use Rattle.report.proofs.write.add.Statement.{statement}
-use Rattle.report.proofs.write.add.Tie as tie
+use Rattle.report.proofs.write.copy.Statement.{statement}
+use Rattle.report.proofs.write.copy.Tie as tie
 
 abbrev Inv-loop : tie.InvT-loop
 Inv-loop line₀ at text i₀ line i =
@@ -42,8 +42,8 @@ same-length c = search laws
 returns : tie.Need-returns Inv-loop μ-loop
 returns c = search laws
 
-pub add-spec : {M : Type 1} → statement M
-add-spec =
+pub copy-spec : {M : Type 1} → statement M
+copy-spec =
     tie.close
     (tie.spec
     Inv-loop

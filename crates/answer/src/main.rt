@@ -15,6 +15,15 @@ use tables::resolve_alone;
 use tokenizer::Answer;
 use tokenizer::Step;
 
+// The buffers of a line, of the words of its table, of its texts, and of the output.
+type Line = [u8; 600000];
+
+type Nodes = [u64; 4097];
+
+type Texts = [u8; 300000];
+
+type Out = [u8; 65536];
+
 // The answers that wait in the output buffer: how many bytes they are, and whether every write so far went well.
 struct Sink {
     used: usize,
@@ -40,10 +49,10 @@ fn main() {
 // Nothing says that the input ends, so the turns are counted down, from a number that no run uses up.
 fn answer_all(
     input: &mut [u8],
-    line: &mut [u8],
-    words: &mut [u64],
-    text: &mut [u8],
-    out: &mut [u8],
+    line: &mut Line,
+    words: &mut Nodes,
+    text: &mut Texts,
+    out: &mut Out,
 ) {
     let mut turns = u64::MAX;
     let mut state = State {
@@ -76,10 +85,10 @@ fn fill(input: &mut [u8]) -> usize
 fn take_lines(
     input: &[u8],
     state: State,
-    line: &mut [u8],
-    words: &mut [u64],
-    text: &mut [u8],
-    out: &mut [u8],
+    line: &mut Line,
+    words: &mut Nodes,
+    text: &mut Texts,
+    out: &mut Out,
 ) -> State {
     let mut held = state.held;
     let mut sink = state.sink;
@@ -138,7 +147,7 @@ fn copy(from: &[u8], to: &mut [u8], at: usize)
 }
 
 // Answers the last line, where it lacks its newline, and writes out what waits.
-fn finish(state: State, line: &[u8], words: &mut [u64], text: &mut [u8], out: &mut [u8]) {
+fn finish(state: State, line: &[u8], words: &mut Nodes, text: &mut Texts, out: &mut Out) {
     let sink = state.sink;
     if state.held == 0 {
         flush(out, sink);
@@ -163,9 +172,9 @@ fn flush(out: &[u8], sink: Sink) {
 fn answer_line(
     line: &[u8],
     held: usize,
-    words: &mut [u64],
-    text: &mut [u8],
-    out: &mut [u8],
+    words: &mut Nodes,
+    text: &mut Texts,
+    out: &mut Out,
     sink: Sink,
 ) -> Sink {
     if line.len() < held {
@@ -175,7 +184,7 @@ fn answer_line(
 }
 
 // Answers a request line by its letter.
-fn respond(line: &[u8], words: &mut [u64], text: &mut [u8], out: &mut [u8], sink: Sink) -> Sink {
+fn respond(line: &[u8], words: &mut Nodes, text: &mut Texts, out: &mut Out, sink: Sink) -> Sink {
     let letter = request::field(line, 0);
     let at = letter.start;
     if line.len() <= at {
@@ -193,7 +202,7 @@ fn respond(line: &[u8], words: &mut [u64], text: &mut [u8], out: &mut [u8], sink
 }
 
 // M, a name and a word: what mnemonic_match and mnemonic_compare say of them.
-fn names(line: &[u8], at: usize, text: &mut [u8], out: &mut [u8], sink: Sink) -> Sink {
+fn names(line: &[u8], at: usize, text: &mut [u8], out: &mut Out, sink: Sink) -> Sink {
     let name = take_text(line, at, text, 0);
     if !name.ok {
         return refuse(out, sink);
@@ -226,7 +235,7 @@ fn respond_text(
     line: &[u8],
     at: usize,
     text: &mut [u8],
-    out: &mut [u8],
+    out: &mut Out,
     sink: Sink,
 ) -> Sink {
     let taken = take_text(line, at, text, 0);
@@ -241,7 +250,7 @@ fn respond_text(
 }
 
 // T and D: the tokens of a message, and of data alone. C and N: the items of a channel list, and of a numeric list.
-fn answer_text(letter: u8, text: &[u8], out: &mut [u8], sink: Sink) -> Sink {
+fn answer_text(letter: u8, text: &[u8], out: &mut Out, sink: Sink) -> Sink {
     match letter {
         b'T' => put_steps(text, tokenizer::new(), out, sink),
         b'D' => put_steps(text, tokenizer::new_params(), out, sink),
@@ -253,7 +262,7 @@ fn answer_text(letter: u8, text: &[u8], out: &mut [u8], sink: Sink) -> Sink {
 
 // Adds the part of each step, up to the end of the text or a refusal. A text of n bytes gives at most n tokens or
 // refusals before its end, so n + 1 turns are enough.
-fn put_steps(text: &[u8], start: tokenizer::State, out: &mut [u8], sink: Sink) -> Sink {
+fn put_steps(text: &[u8], start: tokenizer::State, out: &mut Out, sink: Sink) -> Sink {
     let mut state = start;
     let mut last = sink;
     let mut turn = 0;
@@ -270,7 +279,7 @@ fn put_steps(text: &[u8], start: tokenizer::State, out: &mut [u8], sink: Sink) -
 }
 
 // Adds the part of a step.
-fn put_step(step: Step, out: &mut [u8], sink: Sink) -> Sink {
+fn put_step(step: Step, out: &mut Out, sink: Sink) -> Sink {
     let mut part = [0u8; 128];
     let n = report::token_part(step, &mut part);
     put(out, sink, &part[..n])
@@ -328,13 +337,18 @@ fn is_last(line: &[u8], at: usize) -> bool {
 }
 
 // The answer to a line that is no request.
-fn refuse(out: &mut [u8], sink: Sink) -> Sink {
+fn refuse(out: &mut Out, sink: Sink) -> Sink {
     put(out, sink, b"request?\n")
 }
 
-// Adds an answer, or a part of one, to what waits, which is written out first where there is no room. Once a
-// write has failed nothing more is written.
-fn put(out: &mut [u8], sink: Sink, answer: &[u8]) -> Sink {
+// Adds an answer, or a part of one, to what waits.
+fn put(out: &mut Out, sink: Sink, answer: &[u8]) -> Sink {
+    put_behind(out, sink, answer)
+}
+
+// Adds to what waits in a buffer, which is written out first where there is no room. Once a write has failed nothing
+// more is written.
+fn put_behind(out: &mut [u8], sink: Sink, answer: &[u8]) -> Sink {
     let used = sink.used;
     if !sink.ok {
         return sink;

@@ -2,6 +2,7 @@
 ghost use mathlib.Core.Path.{_≡_};
 ghost use Prim.Native.Nat.{_≤_};
 ghost use lib.ListN.{length};
+use crate::Out;
 use crate::Sink;
 use crate::is_last;
 use crate::lists::put_code;
@@ -22,7 +23,7 @@ pub(crate) fn check_table(
     at: usize,
     words: &mut [u64],
     text: &mut [u8],
-    out: &mut [u8],
+    out: &mut Out,
     sink: Sink,
 ) -> Sink {
     let taken = take_table(line, at, words, text);
@@ -38,7 +39,7 @@ pub(crate) fn check_table(
 }
 
 // `accepted`, or `fault` and its number.
-fn put_checked(out: &mut [u8], sink: Sink, checked: Checked) -> Sink {
+fn put_checked(out: &mut Out, sink: Sink, checked: Checked) -> Sink {
     match checked {
         Checked::Accepted => put(out, sink, b"accepted\n"),
         Checked::Fault(e) => {
@@ -54,7 +55,7 @@ pub(crate) fn resolve_alone(
     at: usize,
     words: &mut [u64],
     text: &mut [u8],
-    out: &mut [u8],
+    out: &mut Out,
     sink: Sink,
 ) -> Sink {
     let taken = take_header(line, at, words, text);
@@ -65,7 +66,7 @@ pub(crate) fn resolve_alone(
 }
 
 // `command N event branch B`, with `query` in the place of `event` for a query; or `refused` and its number.
-fn put_resolved(out: &mut [u8], sink: Sink, resolved: Resolved) -> Sink {
+fn put_resolved(out: &mut Out, sink: Sink, resolved: Resolved) -> Sink {
     match resolved {
         Resolved::Command {
             command,
@@ -76,7 +77,7 @@ fn put_resolved(out: &mut [u8], sink: Sink, resolved: Resolved) -> Sink {
     }
 }
 
-fn put_command(out: &mut [u8], sink: Sink, command: u16, query: bool, branch: usize) -> Sink {
+fn put_command(out: &mut Out, sink: Sink, command: u16, query: bool, branch: usize) -> Sink {
     let named = put_number(out, sink, b"command ", command as u64);
     let formed = put_form(out, named, query);
     let shown = put_number(out, formed, b" branch ", branch as u64);
@@ -84,7 +85,7 @@ fn put_command(out: &mut [u8], sink: Sink, command: u16, query: bool, branch: us
 }
 
 // The form of a command.
-fn put_form(out: &mut [u8], sink: Sink, query: bool) -> Sink {
+fn put_form(out: &mut Out, sink: Sink, query: bool) -> Sink {
     if query {
         return put(out, sink, b" query");
     }

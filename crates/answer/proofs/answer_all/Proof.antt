@@ -5,8 +5,7 @@ use Rattle.answer.proofs.answer_all.Statement.{statement}
 use Rattle.answer.proofs.answer_all.Tie as tie
 
 abbrev Inv-loop : tie.InvT-loop
-Inv-loop input₀ line₀ words₀ text₀ out₀ turns₀ state₀ input line words text out turns state =
-    (length input ≡ length input₀) × (length line ≡ length line₀) × (length words ≡ length words₀) × (length text ≡ length text₀) × (length out ≡ length out₀)
+Inv-loop input₀ line₀ words₀ text₀ out₀ turns₀ state₀ input line words text out turns state = length input ≡ length input₀
 
 abbrev μ-loop : tie.MeasureT-loop
 μ-loop input₀ line₀ words₀ text₀ out₀ turns₀ state₀ input line words text out turns state = turns
@@ -23,18 +22,6 @@ finish-requires c κs = search laws
 same-length : tie.Need-same-length Inv-loop μ-loop
 same-length c = search laws
 
-same-length-2 : tie.Need-same-length-2 Inv-loop μ-loop
-same-length-2 c = search laws
-
-same-length-3 : tie.Need-same-length-3 Inv-loop μ-loop
-same-length-3 c = search laws
-
-same-length-4 : tie.Need-same-length-4 Inv-loop μ-loop
-same-length-4 c = search laws
-
-same-length-5 : tie.Need-same-length-5 Inv-loop μ-loop
-same-length-5 c = search laws
-
 returns : tie.Need-returns Inv-loop μ-loop
 returns c = search laws
 
@@ -47,20 +34,8 @@ slice-aggregate-take-lines c = search laws
 take-lines-requires : tie.Need-take-lines-requires Inv-loop μ-loop
 take-lines-requires c κs = search laws
 
-same-length-6 : tie.Need-same-length-6 Inv-loop μ-loop
-same-length-6 c = search laws
-
-same-length-7 : tie.Need-same-length-7 Inv-loop μ-loop
-same-length-7 c = search laws
-
-same-length-8 : tie.Need-same-length-8 Inv-loop μ-loop
-same-length-8 c = search laws
-
-same-length-9 : tie.Need-same-length-9 Inv-loop μ-loop
-same-length-9 c = search laws
-
-same-length-10 : tie.Need-same-length-10 Inv-loop μ-loop
-same-length-10 c = search laws
+same-length-2 : tie.Need-same-length-2 Inv-loop μ-loop
+same-length-2 c = search laws
 
 returns-2 : tie.Need-returns-2 Inv-loop μ-loop
 returns-2 c = search laws
@@ -74,20 +49,8 @@ loop-less c = search laws
 loop-again : tie.Need-loop-again Inv-loop μ-loop
 loop-again c = search laws
 
-same-length-11 : tie.Need-same-length-11 Inv-loop μ-loop
-same-length-11 c = search laws
-
-same-length-12 : tie.Need-same-length-12 Inv-loop μ-loop
-same-length-12 c = search laws
-
-same-length-13 : tie.Need-same-length-13 Inv-loop μ-loop
-same-length-13 c = search laws
-
-same-length-14 : tie.Need-same-length-14 Inv-loop μ-loop
-same-length-14 c = search laws
-
-same-length-15 : tie.Need-same-length-15 Inv-loop μ-loop
-same-length-15 c = search laws
+same-length-3 : tie.Need-same-length-3 Inv-loop μ-loop
+same-length-3 c = search laws
 
 returns-3 : tie.Need-returns-3 Inv-loop μ-loop
 returns-3 c = search laws
@@ -102,26 +65,14 @@ answer-all-spec =
     fill-requires
     finish-requires
     same-length
-    same-length-2
-    same-length-3
-    same-length-4
-    same-length-5
     returns
     slice-reshare-prefix-take-lines
     slice-aggregate-take-lines
     take-lines-requires
-    same-length-6
-    same-length-7
-    same-length-8
-    same-length-9
-    same-length-10
+    same-length-2
     returns-2
     sub-turns
     loop-less
     loop-again
-    same-length-11
-    same-length-12
-    same-length-13
-    same-length-14
-    same-length-15
+    same-length-3
     returns-3)

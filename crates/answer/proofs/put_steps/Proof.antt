@@ -1,4 +1,3 @@
-use mathlib.Core.Path.{_≡_}
 use Prim.Native.Nat.{suc, _-_}
 use lib.ListN.{length}
 use Rattle.answer.proofs.Laws.{laws}
@@ -6,7 +5,7 @@ use Rattle.answer.proofs.put_steps.Statement.{statement}
 use Rattle.answer.proofs.put_steps.Tie as tie
 
 abbrev Inv-loop : tie.InvT-loop
-Inv-loop text out₀ state₀ last₀ turn₀ out state last turn = length out ≡ length out₀
+Inv-loop text out₀ state₀ last₀ turn₀ out state last turn = Unit {0}
 
 abbrev μ-loop : tie.MeasureT-loop
 μ-loop text out₀ state₀ last₀ turn₀ out state last turn = suc (length text) - turn
@@ -23,9 +22,6 @@ put-step-requires c κs = search laws
 is-token-requires : tie.Need-is-token-requires Inv-loop μ-loop
 is-token-requires c κs = search laws
 
-same-length : tie.Need-same-length Inv-loop μ-loop
-same-length c = search laws
-
 returns : tie.Need-returns Inv-loop μ-loop
 returns c = search laws
 
@@ -37,9 +33,6 @@ loop-less c = search laws
 
 loop-again : tie.Need-loop-again Inv-loop μ-loop
 loop-again c = search laws
-
-same-length-2 : tie.Need-same-length-2 Inv-loop μ-loop
-same-length-2 c = search laws
 
 returns-2 : tie.Need-returns-2 Inv-loop μ-loop
 returns-2 c = search laws
@@ -54,10 +47,8 @@ put-steps-spec =
     next-requires
     put-step-requires
     is-token-requires
-    same-length
     returns
     add-turn
     loop-less
     loop-again
-    same-length-2
     returns-2)

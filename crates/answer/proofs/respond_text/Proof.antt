@@ -11,9 +11,6 @@ refuse-requires c κs = search laws
 same-length : tie.Need-same-length
 same-length c = search laws
 
-same-length-2 : tie.Need-same-length-2
-same-length-2 c = search laws
-
 returns : tie.Need-returns
 returns c = search laws
 
@@ -23,11 +20,8 @@ is-last-requires c κs = search laws
 refuse-requires-2 : tie.Need-refuse-requires-2
 refuse-requires-2 c κs = search laws
 
-same-length-3 : tie.Need-same-length-3
-same-length-3 c = search laws
-
-same-length-4 : tie.Need-same-length-4
-same-length-4 c = search laws
+same-length-2 : tie.Need-same-length-2
+same-length-2 c = search laws
 
 returns-2 : tie.Need-returns-2
 returns-2 c = search laws
@@ -41,11 +35,8 @@ slice-aggregate-answer-text c = search laws
 answer-text-requires : tie.Need-answer-text-requires
 answer-text-requires c κs = search laws
 
-same-length-5 : tie.Need-same-length-5
-same-length-5 c = search laws
-
-same-length-6 : tie.Need-same-length-6
-same-length-6 c = search laws
+same-length-3 : tie.Need-same-length-3
+same-length-3 c = search laws
 
 returns-3 : tie.Need-returns-3
 returns-3 c = search laws
@@ -57,16 +48,13 @@ respond-text-spec =
     take-text-requires
     refuse-requires
     same-length
-    same-length-2
     returns
     is-last-requires
     refuse-requires-2
-    same-length-3
-    same-length-4
+    same-length-2
     returns-2
     slice-reshare-prefix-answer-text
     slice-aggregate-answer-text
     answer-text-requires
-    same-length-5
-    same-length-6
+    same-length-3
     returns-3)

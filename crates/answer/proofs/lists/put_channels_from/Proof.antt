@@ -1,4 +1,3 @@
-use mathlib.Core.Path.{_≡_}
 use Prim.Native.Nat.{suc, _-_}
 use lib.ListN.{length}
 use Rattle.answer.proofs.Laws.{laws}
@@ -6,7 +5,7 @@ use Rattle.answer.proofs.lists.put_channels_from.Statement.{statement}
 use Rattle.answer.proofs.lists.put_channels_from.Tie as tie
 
 abbrev Inv-loop : tie.InvT-loop
-Inv-loop text out₀ state₀ last₀ turn₀ out state last turn = length out ≡ length out₀
+Inv-loop text out₀ state₀ last₀ turn₀ out state last turn = Unit {0}
 
 abbrev μ-loop : tie.MeasureT-loop
 μ-loop text out₀ state₀ last₀ turn₀ out state last turn = suc (length text) - turn
@@ -41,9 +40,6 @@ enum-told c = search laws
 put-end-requires : tie.Need-put-end-requires Inv-loop μ-loop
 put-end-requires c κs = search laws
 
-same-length : tie.Need-same-length Inv-loop μ-loop
-same-length c = search laws
-
 returns : tie.Need-returns Inv-loop μ-loop
 returns c = search laws
 
@@ -53,14 +49,8 @@ enum-known-answer-2 c = search laws
 put-refused-requires : tie.Need-put-refused-requires Inv-loop μ-loop
 put-refused-requires c κs = search laws
 
-same-length-2 : tie.Need-same-length-2 Inv-loop μ-loop
-same-length-2 c = search laws
-
 returns-2 : tie.Need-returns-2 Inv-loop μ-loop
 returns-2 c = search laws
-
-same-length-3 : tie.Need-same-length-3 Inv-loop μ-loop
-same-length-3 c = search laws
 
 returns-3 : tie.Need-returns-3 Inv-loop μ-loop
 returns-3 c = search laws
@@ -81,11 +71,8 @@ put-channels-from-spec =
     loop-again
     enum-told
     put-end-requires
-    same-length
     returns
     enum-known-answer-2
     put-refused-requires
-    same-length-2
     returns-2
-    same-length-3
     returns-3)

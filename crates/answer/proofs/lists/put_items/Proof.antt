@@ -1,4 +1,3 @@
-use mathlib.Core.Path.{_≡_}
 use Prim.Native.Nat.{suc, _-_}
 use lib.ListN.{length}
 use Rattle.answer.proofs.Laws.{laws}
@@ -6,10 +5,10 @@ use Rattle.answer.proofs.lists.put_items.Statement.{statement}
 use Rattle.answer.proofs.lists.put_items.Tie as tie
 
 abbrev Inv-loop : tie.InvT-loop
-Inv-loop out₀ part last₀ place₀ turn₀ t12 out last place turn = length out ≡ length out₀
+Inv-loop out₀ part last₀ place₀ turn₀ out last place turn = Unit {0}
 
 abbrev μ-loop : tie.MeasureT-loop
-μ-loop out₀ part last₀ place₀ turn₀ t12 out last place turn = suc (length part) - turn
+μ-loop out₀ part last₀ place₀ turn₀ out last place turn = suc (length part) - turn
 
 slice-aggregate-put : tie.Need-slice-aggregate-put Inv-loop μ-loop
 slice-aggregate-put c = search laws
@@ -41,14 +40,8 @@ loop-again c = search laws
 enum-told : tie.Need-enum-told Inv-loop μ-loop
 enum-told c = search laws
 
-slice-aggregate-put-2 : tie.Need-slice-aggregate-put-2 Inv-loop μ-loop
-slice-aggregate-put-2 c = search laws
-
-put-requires-2 : tie.Need-put-requires-2 Inv-loop μ-loop
-put-requires-2 c κs = search laws
-
-same-length : tie.Need-same-length Inv-loop μ-loop
-same-length c = search laws
+put-byte-requires : tie.Need-put-byte-requires Inv-loop μ-loop
+put-byte-requires c κs = search laws
 
 returns : tie.Need-returns Inv-loop μ-loop
 returns c = search laws
@@ -59,14 +52,8 @@ enum-known-item-2 c = search laws
 put-last-item-requires : tie.Need-put-last-item-requires Inv-loop μ-loop
 put-last-item-requires c κs = search laws
 
-same-length-2 : tie.Need-same-length-2 Inv-loop μ-loop
-same-length-2 c = search laws
-
 returns-2 : tie.Need-returns-2 Inv-loop μ-loop
 returns-2 c = search laws
-
-same-length-3 : tie.Need-same-length-3 Inv-loop μ-loop
-same-length-3 c = search laws
 
 returns-3 : tie.Need-returns-3 Inv-loop μ-loop
 returns-3 c = search laws
@@ -87,13 +74,9 @@ put-items-spec =
     loop-less
     loop-again
     enum-told
-    slice-aggregate-put-2
-    put-requires-2
-    same-length
+    put-byte-requires
     returns
     enum-known-item-2
     put-last-item-requires
-    same-length-2
     returns-2
-    same-length-3
     returns-3)

@@ -1,4 +1,3 @@
-use mathlib.Core.Path.{_≡_}
 use Prim.Native.Nat.{suc, _-_}
 use lib.ListN.{length}
 use Rattle.answer.proofs.Laws.{laws}
@@ -6,7 +5,7 @@ use Rattle.answer.proofs.lists.put_numbers.Statement.{statement}
 use Rattle.answer.proofs.lists.put_numbers.Tie as tie
 
 abbrev Inv-loop : tie.InvT-loop
-Inv-loop text out₀ state₀ last₀ turn₀ t12 out state last turn = length out ≡ length out₀
+Inv-loop text out₀ state₀ last₀ turn₀ t12 out state last turn = Unit {0}
 
 abbrev μ-loop : tie.MeasureT-loop
 μ-loop text out₀ state₀ last₀ turn₀ t12 out state last turn = suc (length text) - turn
@@ -47,9 +46,6 @@ slice-aggregate-put c = search laws
 put-requires : tie.Need-put-requires Inv-loop μ-loop
 put-requires c κs = search laws
 
-same-length : tie.Need-same-length Inv-loop μ-loop
-same-length c = search laws
-
 returns : tie.Need-returns Inv-loop μ-loop
 returns c = search laws
 
@@ -59,14 +55,8 @@ enum-known-answer-2 c = search laws
 put-refused-requires : tie.Need-put-refused-requires Inv-loop μ-loop
 put-refused-requires c κs = search laws
 
-same-length-2 : tie.Need-same-length-2 Inv-loop μ-loop
-same-length-2 c = search laws
-
 returns-2 : tie.Need-returns-2 Inv-loop μ-loop
 returns-2 c = search laws
-
-same-length-3 : tie.Need-same-length-3 Inv-loop μ-loop
-same-length-3 c = search laws
 
 returns-3 : tie.Need-returns-3 Inv-loop μ-loop
 returns-3 c = search laws
@@ -89,11 +79,8 @@ put-numbers-spec =
     enum-told
     slice-aggregate-put
     put-requires
-    same-length
     returns
     enum-known-answer-2
     put-refused-requires
-    same-length-2
     returns-2
-    same-length-3
     returns-3)

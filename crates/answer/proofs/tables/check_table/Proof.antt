@@ -14,9 +14,6 @@ same-length c = search laws
 same-length-2 : tie.Need-same-length-2
 same-length-2 c = search laws
 
-same-length-3 : tie.Need-same-length-3
-same-length-3 c = search laws
-
 returns : tie.Need-returns
 returns c = search laws
 
@@ -26,14 +23,11 @@ is-last-requires c κs = search laws
 refuse-requires-2 : tie.Need-refuse-requires-2
 refuse-requires-2 c κs = search laws
 
+same-length-3 : tie.Need-same-length-3
+same-length-3 c = search laws
+
 same-length-4 : tie.Need-same-length-4
 same-length-4 c = search laws
-
-same-length-5 : tie.Need-same-length-5
-same-length-5 c = search laws
-
-same-length-6 : tie.Need-same-length-6
-same-length-6 c = search laws
 
 returns-2 : tie.Need-returns-2
 returns-2 c = search laws
@@ -56,14 +50,11 @@ check-requires c κs = search laws
 put-checked-requires : tie.Need-put-checked-requires
 put-checked-requires c κs = search laws
 
-same-length-7 : tie.Need-same-length-7
-same-length-7 c = search laws
+same-length-5 : tie.Need-same-length-5
+same-length-5 c = search laws
 
-same-length-8 : tie.Need-same-length-8
-same-length-8 c = search laws
-
-same-length-9 : tie.Need-same-length-9
-same-length-9 c = search laws
+same-length-6 : tie.Need-same-length-6
+same-length-6 c = search laws
 
 returns-3 : tie.Need-returns-3
 returns-3 c = search laws
@@ -76,13 +67,11 @@ check-table-spec =
     refuse-requires
     same-length
     same-length-2
-    same-length-3
     returns
     is-last-requires
     refuse-requires-2
+    same-length-3
     same-length-4
-    same-length-5
-    same-length-6
     returns-2
     slice-reshare-prefix-check
     slice-aggregate-check
@@ -90,7 +79,6 @@ check-table-spec =
     slice-aggregate-check-2
     check-requires
     put-checked-requires
-    same-length-7
-    same-length-8
-    same-length-9
+    same-length-5
+    same-length-6
     returns-3)

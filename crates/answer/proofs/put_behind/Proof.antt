@@ -1,6 +1,6 @@
 use Rattle.answer.proofs.Laws.{laws}
-use Rattle.answer.proofs.put.Statement.{statement}
-use Rattle.answer.proofs.put.Tie as tie
+use Rattle.answer.proofs.put_behind.Statement.{statement}
+use Rattle.answer.proofs.put_behind.Tie as tie
 
 returns : tie.Need-returns
 returns c = search laws
@@ -56,8 +56,8 @@ same-length-4 c = search laws
 returns-6 : tie.Need-returns-6
 returns-6 c = search laws
 
-pub put-spec : {M : Type 1} → statement M
-put-spec =
+pub put-behind-spec : {M : Type 1} → statement M
+put-behind-spec =
     tie.close
     (tie.spec
     returns

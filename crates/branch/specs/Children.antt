@@ -16,7 +16,7 @@ pub record Below (t : List ℕ) (b k : ℕ) : Type 0 where
   pub behind : b < first t b
   pub within : first t b + count t b ≤ length t
 
--- SCPI-99 6.2.1: the word matches the name of the node
+-- SCPI-99 6.2.1 and 6.2.5.2: the word matches the name of the node
 unfoldable pub spokenBy : List ℕ → List ℕ → List ℕ → ℕ → Bool
 spokenBy t names w k = matches (nameOf t names k) w
 
@@ -29,7 +29,7 @@ pub data Picks (t : List ℕ) (b : ℕ) (p : ℕ → Bool) : Pick → Type 0 whe
   first-one : {k : ℕ} → Below t b k → p k ≡ true → ((j : ℕ) → Below t b j → j < k → p j ≡ false) → Picks t b p (pick.Child k)
   not-one : ((j : ℕ) → Below t b j → p j ≡ false) → Picks t b p pick.None
 
--- the nodes from one place up to another are those children of b
+-- the nodes from one place up to another, and not the one there, are the children of b in the sense of `Below`
 pub record Covers (t : List ℕ) (b from to : ℕ) : Type 0 where
   pub only : (k : ℕ) → from ≤ k → k < to → Below t b k
   pub all : (k : ℕ) → Below t b k → (from ≤ k) × (k < to)

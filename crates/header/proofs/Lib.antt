@@ -3,4 +3,5 @@ pub mod Tokens
 pub mod Descents
 pub mod Entries
 pub mod Once
+pub mod Some
 pub mod Claims

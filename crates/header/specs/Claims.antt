@@ -7,5 +7,6 @@ use Rattle.header.specs.declared.Seen.{Seen}
 use Rattle.header.specs.declared.Header.{Header}
 
 pub record Claims : Type 0 where
-  -- there is one answer only to a header, in every table and from every start
+  -- there is an answer to every header, in every table and from every start, and one only
+  pub some-answer : (t names s : List ℕ) (b : ℕ) (seen : Seen) → (r : Header) × Begins t names s b seen r
   pub one-answer : (t names s : List ℕ) (b : ℕ) (seen : Seen) (r q : Header) → Begins t names s b seen r → Begins t names s b seen q → r ≡ q

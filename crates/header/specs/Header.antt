@@ -26,11 +26,11 @@ use Rattle.header.specs.declared.Turn.the-variants as turn
 use Rattle.header.specs.declared.Header.{Header}
 use Rattle.header.specs.declared.Header.the-variants as header
 
--- -113
+-- SCPI-99 21.8.3: undefined header, -113
 abbrev pub undefined : Header
 undefined = header.Refused refusal.UndefinedHeader
 
--- IEEE 488.2 7.6.2: behind a question mark the header ends; another token there is -102
+-- IEEE 488.2 7.6.2: behind a question mark the header ends. The token step lets nothing else stand there; it would be -102.
 abbrev pub behindQuery : ℕ → ℕ → State → Ahead → Header
 behindQuery c h st (ahead.Stop x) = header.Found c true h x st
 behindQuery c h st (ahead.Refused e) = header.Refused e
@@ -41,7 +41,7 @@ behindQuery c h st ahead.Colon = header.Refused refusal.SyntaxError
 unfoldable pub queryAnswer : ℕ → ℕ → Seen → Header
 queryAnswer c h seen = behindQuery c h (seen .state) (seen .ahead)
 
--- At a leaf with the command c the header ends, with a question mark or without; or it goes on, and is -113.
+-- IEEE 488.2 7.6: at a leaf with the command c the header ends, with a question mark or without; or it goes on, and is -113.
 abbrev pub atLeaf : List ℕ → ℕ → ℕ → State → Ahead → Header
 atLeaf s c h st (ahead.Stop x) = header.Found c false h x st
 atLeaf s c h st ahead.Query = queryAnswer c h (seenAt s st)
@@ -52,7 +52,7 @@ atLeaf s c h st ahead.Colon = undefined
 unfoldable pub leafAnswer : List ℕ → ℕ → ℕ → Seen → Header
 leafAnswer s c h seen = atLeaf s c h (seen .state) (seen .ahead)
 
--- Behind a colon stands a word, or the header is -110.
+-- IEEE 488.2 7.6.1: behind a colon stands a word, or the header is -110. The token step lets only a word, or the end of the text, stand there.
 abbrev pub wordBehind : State → Ahead → Turn
 wordBehind st (ahead.Word w) = turn.Word w st
 wordBehind st (ahead.Refused e) = turn.Refused e
@@ -63,7 +63,7 @@ wordBehind st ahead.Colon = turn.Refused refusal.CommandHeaderError
 unfoldable pub behindColon : Seen → Turn
 behindColon seen = wordBehind (seen .state) (seen .ahead)
 
--- At a branch the header ends, or a word stands there, with a colon before it or not.
+-- IEEE 488.2 7.6.1: at a branch the header ends, or a word stands there, with a colon before it or not.
 abbrev pub atBranch : List ℕ → State → Ahead → Turn
 atBranch s st (ahead.Word w) = turn.Word w st
 atBranch s st (ahead.Stop x) = turn.Stop
@@ -74,7 +74,8 @@ atBranch s st ahead.Colon = behindColon (seenAt s st)
 unfoldable pub turnOf : List ℕ → Seen → Turn
 turnOf s seen = atBranch s (seen .state) (seen .ahead)
 
--- Reads h n seen r: the answer r from the node n on, with what is seen ahead. The branch h holds the node that was spoken last.
+-- Reads h n seen r: the answer r from the node n on, with what is seen ahead. The branch kept so far is h: it holds the node that was
+-- spoken last, or is where the header starts.
 pub data Reads (t names s : List ℕ) : ℕ → ℕ → Seen → Header → Type 0 where
   leaf : {h n : ℕ} {seen : Seen} → branch t n ≡ false → Reads t names s h n seen (leafAnswer s (commandNumber (getD t n 0)) h seen)
   -- a token that is refused at a branch
@@ -102,7 +103,7 @@ pub data Reads (t names s : List ℕ) : ℕ → ℕ → Seen → Header → Type
 abbrev pub isCommon : List ℕ → View → Bool
 isCommon s w = standsAt (code "*") (partOf s w) 0
 
--- the branch kept is another one
+-- the same answer, with the branch b kept
 abbrev pub keeping : ℕ → Header → Header
 keeping b (header.Found c q kept x st) = header.Found c q b x st
 keeping b (header.Refused e) = header.Refused e
@@ -111,10 +112,10 @@ keeping b (header.Refused e) = header.Refused e
 pub data Begins (t names s : List ℕ) (b : ℕ) (seen : Seen) : Header → Type 0 where
   no-branch : branch t b ≡ false → Begins t names s b seen (header.Refused refusal.StartIsNoBranch)
   first-refused : {e : ErrorCode} → branch t b ≡ true → seen .ahead ≡ ahead.Refused e → Begins t names s b seen (header.Refused e)
-  -- no header begins with a separator or a question mark, and an empty one is none
+  -- IEEE 488.2 7.6: a header begins with a mnemonic or a colon; a text that ends at once has none
   no-header : {x : Stop} → branch t b ≡ true → seen .ahead ≡ ahead.Stop x → Begins t names s b seen (header.Refused refusal.SyntaxError)
   no-question : branch t b ≡ true → seen .ahead ≡ ahead.Query → Begins t names s b seen (header.Refused refusal.SyntaxError)
-  -- SCPI-99 6.2.4: a leading colon starts at the root
+  -- SCPI-99 6.2.4: a leading colon starts at the root. Alone at the end of the text it resolves an empty header there.
   from-root : {r : Header} → branch t b ≡ true → seen .ahead ≡ ahead.Colon → Reads t names s 0 0 (seenAt s (seen .state)) r
       → Begins t names s b seen r
   -- IEEE 488.2 appendix A.1.1: a common command starts at the root, and the branch stays

@@ -13,7 +13,8 @@ use Rattle.header.specs.declared.Ahead.{Ahead}
 use Rattle.header.specs.declared.Ahead.the-variants as ahead
 use Rattle.header.specs.declared.Seen.{Seen}
 
--- what a token is to a header: data and a comma have no place there, and are -102
+-- What a token is to a header. Data and a comma have no place there, and are -102; of these only an expression comes out of the token
+-- step in a header.
 abbrev pub tokenAhead : Token → Ahead
 tokenAhead (ProgramMnemonic w) = ahead.Word w
 tokenAhead HeaderMnemonicSeparator = ahead.Colon

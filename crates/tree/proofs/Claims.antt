@@ -1,5 +1,5 @@
 -- The claims.
-use Prim.Native.Nat.{ℕ}
+use Prim.Native.Nat.{ℕ, _≤_, _<_}
 use mathlib.Core.Path.{_≡_, refl, sym, ap, _∙_}
 use mathlib.Core.Logic.{_⊎_, inl, inr}
 use mathlib.Core.List.{List, [], _∷_}
@@ -10,7 +10,7 @@ use lib.ListN.{length, getD}
 use borrow.Author.Tests.{eqb-true}
 use Rattle.error.specs.declared.ErrorCode.the-variants.{UndefinedHeader}
 use Rattle.kind.specs.Class.{isCapital, isSmall, isLetter}
-use Rattle.kind.proofs.Tests.{clash}
+use Rattle.kind.proofs.Tests.{clash, less-or-not}
 use Rattle.util.specs.Run.{standsAt}
 use Rattle.node.specs.Word.{commandNumber}
 use Rattle.node.specs.Tree.{branch}
@@ -26,6 +26,7 @@ use Rattle.header.specs.Header.{isCommon, Begins}
 use Rattle.header.specs.declared.Stop.the-variants as end
 use Rattle.header.specs.declared.Ahead.the-variants as ahead
 use Rattle.header.specs.declared.Header.{Header}
+use Rattle.header.proofs.Claims as header
 use Rattle.header.proofs.Once.{Began, began-at, at-root, starred, plain}
 use Rattle.tree.specs.Route.{Leads}
 use Rattle.tree.specs.Alone.{closing, Resolves, no-branch, too-long, one-header, ResolvesAlone}
@@ -99,8 +100,8 @@ data Final (t names : List ℕ) (b : ℕ) (words : List (List ℕ)) (query : Boo
 
 module _ (t names : List ℕ) (words : List (List ℕ)) (query : Bool) where
   final-of : {b : ℕ} {r : Header} {st : State} → Outcome t names query end.Text st b b words r → Final t names b words query (closing r)
-  final-of (routed {nodes} {leaf} {kept} x) = leads (record { nodes = nodes; leaf = leaf; route = x; command = refl })
-  final-of (lost l) = fails (λ c kept x. l (x .nodes) (x .leaf) kept (x .route))
+  final-of (routed {stages} {leaf} {kept} x) = leads (record { stages = stages; leaf = leaf; route = x; command = refl })
+  final-of (lost l) = fails (λ c kept x. l (x .stages) (x .leaf) kept (x .route))
 
   module _ (b : ℕ) (s : List ℕ) (ok : Tree t names) (m : branch t b ≡ true) (rooted : Bool) (f : WellFormed s rooted words query) where
     final : {r : Resolved} → Resolves t names b s r → Final t names (cond rooted 0 b) words query r
@@ -152,7 +153,7 @@ module _ (t names : List ℕ) (b : ℕ) (words : List (List ℕ)) (query : Bool)
   answers x =
       record {
         command = λ c kept. (is-lead x c kept, gets x c kept);
-        one-route = λ nodes nodes′ leaf leaf′ kept kept′ y z. unique t names ok y z;
+        one-route = λ stages stages′ leaf leaf′ kept kept′ y z. unique t names ok y z;
         undefined = (no-lead x, is-undefined x);
         either = one-of x;
       }
@@ -163,12 +164,21 @@ demand t names b s rooted words query r a m f x =
     let ok = table.claims .accepted t names a in
     answers t names (cond rooted 0 b) words query ok (final t names words query b s ok m rooted f (past-check a x))
 
+some-resolves : (t names : List ℕ) (b : ℕ) (s : List ℕ) → (r : Resolved) × Resolves t names b s r
+some-resolves t names b s = go (branch t b) refl (less-or-not 65535 (length s))
+  where
+    go : (c : Bool) → branch t b ≡ c → (65535 < length s) ⊎ (length s ≤ 65535) → (r : Resolved) × Resolves t names b s r
+    go false m l = (_, no-branch m)
+    go true m (inl l) = (_, too-long m l)
+    go true m (inr l) = let z = header.claims .some-answer t names s b (seenAt s ofMessage) in (_, one-header m l (z .1))
+
 pub claims : Claims
 claims =
     record {
       demand = demand;
       reads = reads;
       unchecked = λ t names b s. unchecked;
+      some-unchecked = some-resolves;
       one-alone = λ t names b s. one-alone;
       one-unchecked = λ t names b s. one-resolves;
     }

@@ -1,4 +1,4 @@
--- Resolution alone: a text that is one header and nothing else.
+-- Resolution alone: a text that is one header and nothing else but a newline at its end, IEEE 488.2 7.5.
 use Prim.Native.Nat.{ℕ, _≤_, _<_}
 use mathlib.Core.Path.{_≡_}
 use mathlib.Core.List.{List}
@@ -19,7 +19,7 @@ use Rattle.header.specs.declared.Header.the-variants as header
 use Rattle.tree.specs.declared.Resolved.{Resolved}
 use Rattle.tree.specs.declared.Resolved.the-variants as resolved
 
--- behind the header the text ends; a token there is -102
+-- behind the header the text ends; white space or a unit separator there is -102
 abbrev pub aloneWith : ℕ → Bool → ℕ → Stop → Resolved
 aloneWith c query kept stop.Text = resolved.Command c query kept
 aloneWith c query kept stop.Separator = resolved.Refused refusal.SyntaxError
@@ -32,11 +32,11 @@ closing (header.Refused e) = resolved.Refused e
 
 -- The answer for the text s from the branch b of a table that is not checked.
 pub data Resolves (t names : List ℕ) (b : ℕ) (s : List ℕ) : Resolved → Type 0 where
-  -- 7
+  -- 7: the start is no branch
   no-branch : branch t b ≡ false → Resolves t names b s (resolved.Refused refusal.StartIsNoBranch)
-  -- 9
+  -- 9: the text has more than 65,535 bytes
   too-long : branch t b ≡ true → 65535 < length s → Resolves t names b s (resolved.Refused refusal.MessageTooLong)
-  -- the text
+  -- then the text itself
   one-header : {r : Header} → branch t b ≡ true → length s ≤ 65535 → Begins t names s b (seenAt s ofMessage) r → Resolves t names b s (closing r)
 
 -- The answer where the table is checked first: its smallest fault, 1 to 6, before all else.

@@ -10,7 +10,7 @@ use Rattle.table.specs.Fault.{Accepted}
 use Rattle.token.specs.declared.Token.{Token}
 use Rattle.token.specs.declared.Token.the-variants.{HeaderMnemonicSeparator}
 use Rattle.tokenizer.specs.Step.{ofMessage}
-use Rattle.tree.specs.Route.{Route, Leads}
+use Rattle.tree.specs.Route.{Stage, Route, Leads}
 use Rattle.tree.specs.Alone.{Resolves, ResolvesAlone}
 use Rattle.tree.specs.WellFormed.{WellFormed, Tokens, Shown}
 use Rattle.tree.specs.declared.Resolved.{Resolved}
@@ -20,9 +20,9 @@ use Rattle.tree.specs.declared.Resolved.the-variants.{Command, Refused}
 pub record Answers (t names : List ℕ) (b : ℕ) (words : List (List ℕ)) (query : Bool) (r : Resolved) : Type 0 where
   -- it gets a command exactly when some route spells it, and the command and the branch kept are that route's
   pub command : (c kept : ℕ) → (r ≡ Command c query kept) ↔ Leads t names b words c kept
-  -- there is one such route only
-  pub one-route : (nodes nodes′ : List ℕ) (leaf leaf′ kept kept′ : ℕ) → Route t names b b words nodes leaf kept → Route t names b b words nodes′ leaf′ kept′
-      → (nodes ≡ nodes′) × (leaf ≡ leaf′) × (kept ≡ kept′)
+  -- there is one such route only: the same nodes, and the same of them spoken
+  pub one-route : (stages stages′ : List Stage) (leaf leaf′ kept kept′ : ℕ) → Route t names b b words stages leaf kept → Route t names b b words stages′ leaf′ kept′
+      → (stages ≡ stages′) × (leaf ≡ leaf′) × (kept ≡ kept′)
   -- it is -113 exactly when there is no route
   pub undefined : (r ≡ Refused UndefinedHeader) ↔ ((c kept : ℕ) → Leads t names b words c kept → ⊥)
   -- and it is one or the other
@@ -39,6 +39,8 @@ pub record Claims : Type 0 where
       → (tokens : List Token) × Tokens s ofMessage (cond rooted (HeaderMnemonicSeparator ∷ tokens) tokens) × Shown s words query tokens
   -- without the check the answer is the same in an accepted table
   pub unchecked : (t names : List ℕ) (b : ℕ) (s : List ℕ) (r q : Resolved) → Accepted t names → ResolvesAlone t names b s r → Resolves t names b s q → r ≡ q
-  -- there is one answer only, in every table and to every text
+  -- there is an answer to every text, in every table
+  pub some-unchecked : (t names : List ℕ) (b : ℕ) (s : List ℕ) → (r : Resolved) × Resolves t names b s r
+  -- and one only
   pub one-alone : (t names : List ℕ) (b : ℕ) (s : List ℕ) (r q : Resolved) → ResolvesAlone t names b s r → ResolvesAlone t names b s q → r ≡ q
   pub one-unchecked : (t names : List ℕ) (b : ℕ) (s : List ℕ) (r q : Resolved) → Resolves t names b s r → Resolves t names b s q → r ≡ q

@@ -21,7 +21,7 @@ pub record Mnemonic (w : List ℕ) : Type 0 where
   pub all : every inMnemonic w ≡ true
   pub short : length w ≤ 12
 
--- one or more mnemonics joined by single colons
+-- IEEE 488.2 7.6.1.2: one or more mnemonics joined by single colons
 pub data Joined : List (List ℕ) → List ℕ → Type 0 where
   last : {w : List ℕ} → Mnemonic w → Joined (w ∷ []) w
   before : {w text : List ℕ} {words : List (List ℕ)} → Mnemonic w → Joined words text → Joined (w ∷ words) (w ++ (ascii ":" ++ text))
@@ -37,8 +37,8 @@ pub record WellFormed (s : List ℕ) (rooted : Bool) (words : List (List ℕ)) (
 -- the tokens from a state to the end of the text, none refused
 pub data Tokens (s : List ℕ) : State → List Token → Type 0 where
   no-more : {st : State} → (step s st) .answer ≡ answer.End → Tokens s st []
-  next : {st : State} {t : Token} {tokens : List Token} → (step s st) .answer ≡ answer.Token t → Tokens s ((step s st) .state) tokens
-      → Tokens s st (t ∷ tokens)
+  next : {st : State} {token : Token} {tokens : List Token} → (step s st) .answer ≡ answer.Token token → Tokens s ((step s st) .state) tokens
+      → Tokens s st (token ∷ tokens)
 
 -- the tokens are a mnemonic for each word, a colon between two of them, and a question mark behind the last of a query
 pub data Shown (s : List ℕ) : List (List ℕ) → Bool → List Token → Type 0 where

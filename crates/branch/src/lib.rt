@@ -18,8 +18,9 @@ pub fn spoken_child(nodes: &[u64], names: &[u8], b: usize, word: &[u8]) -> Pick
     ensures { λ r. ⌜ Picks (now (nodes .entry)) b (spokenBy (now (nodes .entry)) (now (names .entry)) (now (word .entry))) r ⌝ }
 {
     let block = children(nodes, b);
+    let first = block.from;
     let to = block.to;
-    let mut k = block.from;
+    let mut k = first;
     while k < to {
         if mnemonic::mnemonic_match(node::name(names, nodes[k]), word) {
             return Pick::Child(k);
@@ -35,12 +36,12 @@ pub fn default_child(nodes: &[u64], b: usize) -> Pick
 {
     let block = children(nodes, b);
     let to = block.to;
-    let mut k = block.from;
-    while k < to {
-        if node::is_default(nodes[k]) {
-            return Pick::Child(k);
+    let mut d = block.from;
+    while d < to {
+        if node::is_default(nodes[d]) {
+            return Pick::Child(d);
         }
-        k += 1;
+        d += 1;
     }
     Pick::None
 }

@@ -6,4 +6,5 @@ pub mod Hearing
 pub mod Spoken
 pub mod Saying
 pub mod Once
+pub mod Worked
 pub mod Claims

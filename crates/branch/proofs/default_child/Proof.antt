@@ -5,10 +5,10 @@ use Rattle.branch.proofs.default_child.Statement.{statement}
 use Rattle.branch.proofs.default_child.Tie as tie
 
 abbrev Inv-loop : tie.InvT-loop
-Inv-loop nodes b to k₀ k = Passed (unsaidIn nodes) k₀ k
+Inv-loop nodes b to d₀ d = Passed (unsaidIn nodes) d₀ d
 
 abbrev μ-loop : tie.MeasureT-loop
-μ-loop nodes b to k₀ k = to - k
+μ-loop nodes b to d₀ d = to - d
 
 children-requires : tie.Need-children-requires Inv-loop μ-loop
 children-requires c κs = search default-laws
@@ -28,8 +28,8 @@ is-default-requires c κs = search default-laws
 returns : tie.Need-returns Inv-loop μ-loop
 returns c = search default-laws
 
-add-k : tie.Need-add-k Inv-loop μ-loop
-add-k c = search default-laws
+add-d : tie.Need-add-d Inv-loop μ-loop
+add-d c = search default-laws
 
 loop-less : tie.Need-loop-less Inv-loop μ-loop
 loop-less c = search default-laws
@@ -52,7 +52,7 @@ default-child-spec =
     shared-slice-read-is-default
     is-default-requires
     returns
-    add-k
+    add-d
     loop-less
     loop-again
     returns-2)

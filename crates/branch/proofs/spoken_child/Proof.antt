@@ -5,10 +5,10 @@ use Rattle.branch.proofs.spoken_child.Statement.{statement}
 use Rattle.branch.proofs.spoken_child.Tie as tie
 
 abbrev Inv-loop : tie.InvT-loop
-Inv-loop nodes names b word to k₀ k = Passed (spokenBy nodes names word) k₀ k
+Inv-loop nodes names b word first to k₀ k = Passed (spokenBy nodes names word) k₀ k
 
 abbrev μ-loop : tie.MeasureT-loop
-μ-loop nodes names b word to k₀ k = to - k
+μ-loop nodes names b word first to k₀ k = to - k
 
 children-requires : tie.Need-children-requires Inv-loop μ-loop
 children-requires c κs = search spoken-laws

@@ -1,3 +1,5 @@
 -- Laws that belong to no one function.
 pub mod Picks
 pub mod Some
+pub mod Once
+pub mod Claims

@@ -1,18 +1,17 @@
 -- One answer only: the answer to a header is determined by table, start and text.
-use Prim.Native.Nat.{ℕ, _≤_, _<_}
+use Prim.Native.Nat.{ℕ}
 use mathlib.Core.Path.{_≡_, refl, sym, ap, subst, _∙_}
-use mathlib.Core.Logic.{_⊎_, inl, inr}
 use mathlib.Core.List.{List}
 use mathlib.Core.Bool.{Bool, true, false}
-use native.Mathlib.Omega.{arith}
 use lib.ListN.{getD}
 use Rattle.error.specs.declared.ErrorCode.{ErrorCode}
 use Rattle.error.specs.declared.ErrorCode.the-variants as refusal
-use Rattle.kind.proofs.Tests.{clash, less-or-not}
+use Rattle.kind.proofs.Tests.{clash}
 use Rattle.node.specs.Word.{commandNumber}
 use Rattle.node.specs.Tree.{branch}
-use Rattle.branch.specs.Children.{spokenBy, unsaidIn, Picks, first-one, not-one}
+use Rattle.branch.specs.Children.{spokenBy, unsaidIn, Picks}
 use Rattle.branch.specs.declared.Pick.the-variants as pick
+use Rattle.branch.proofs.Once.{one-child, no-child}
 use Rattle.token.specs.View.{partOf}
 use Rattle.token.specs.declared.View.{View}
 use Rattle.tokenizer.specs.declared.State.{State}
@@ -26,20 +25,6 @@ use Rattle.header.specs.declared.Turn.{Turn}
 use Rattle.header.specs.declared.Turn.the-variants as turn
 use Rattle.header.specs.declared.Header.{Header}
 use Rattle.header.specs.declared.Header.the-variants as header
-
--- what was picked
-
-module _ {t : List ℕ} {b : ℕ} {q : ℕ → Bool} where
-  one-pick : {k j : ℕ} → Picks t b q (pick.Child k) → Picks t b q (pick.Child j) → k ≡ j
-  one-pick {k} {j} (first-one x e f) (first-one y g h) = go (less-or-not k j) (less-or-not j k)
-    where
-      go : (k < j) ⊎ (j ≤ k) → (j < k) ⊎ (k ≤ j) → k ≡ j
-      go (inl l) z = clash e (h k x l)
-      go (inr l) (inl m) = clash g (f j y m)
-      go (inr l) (inr m) = omega arith
-
-  no-pick : {A : Type 0} {k : ℕ} → Picks t b q (pick.Child k) → Picks t b q pick.None → A
-  no-pick {k = k} (first-one x e f) (not-one g) = clash e (g k x)
 
 -- the answer at a branch, by what the header goes on with there
 data Turned (t names s : List ℕ) (h n : ℕ) (seen : Seen) : Turn → Header → Type 0 where
@@ -81,28 +66,28 @@ module _ {t names s : List ℕ} {h n : ℕ} {seen : Seen} where
 
   is-said : {w : View} {st : State} {k : ℕ} {r : Header} → Picks t n (spokenBy t names (partOf s w)) (pick.Child k) → Turned t names s h n seen (turn.Word w st) r
       → Reads t names s n k (seenAt s st) r
-  is-said k (spoken j y) = rw (one-pick k j) y
-  is-said k (passed j d y) = no-pick k j
-  is-said k (missed j d) = no-pick k j
+  is-said k (spoken j y) = rw (one-child k j) y
+  is-said k (passed j d y) = no-child k j
+  is-said k (missed j d) = no-child k j
 
   is-unsaid : {w : View} {st : State} {k : ℕ} {r : Header} → Picks t n (spokenBy t names (partOf s w)) pick.None → Picks t n (unsaidIn t) (pick.Child k)
       → Turned t names s h n seen (turn.Word w st) r → Reads t names s h k (seenWith (ahead.Word w) st) r
-  is-unsaid k d (spoken j y) = no-pick j k
-  is-unsaid k d (passed j c y) = rw (one-pick d c) y
-  is-unsaid k d (missed j c) = no-pick d c
+  is-unsaid k d (spoken j y) = no-child j k
+  is-unsaid k d (passed j c y) = rw (one-child d c) y
+  is-unsaid k d (missed j c) = no-child d c
 
   is-unknown : {w : View} {st : State} {r : Header} → Picks t n (spokenBy t names (partOf s w)) pick.None → Picks t n (unsaidIn t) pick.None
       → Turned t names s h n seen (turn.Word w st) r → undefined ≡ r
-  is-unknown k d (spoken j y) = no-pick j k
-  is-unknown k d (passed j c y) = no-pick c d
+  is-unknown k d (spoken j y) = no-child j k
+  is-unknown k d (passed j c y) = no-child c d
   is-unknown k d (missed j c) = refl
 
   is-ended : {k : ℕ} {r : Header} → Picks t n (unsaidIn t) (pick.Child k) → Turned t names s h n seen turn.Stop r → Reads t names s h k seen r
-  is-ended d (over c y) = rw (one-pick d c) y
-  is-ended d (none c) = no-pick d c
+  is-ended d (over c y) = rw (one-child d c) y
+  is-ended d (none c) = no-child d c
 
   is-nowhere : {r : Header} → Picks t n (unsaidIn t) pick.None → Turned t names s h n seen turn.Stop r → undefined ≡ r
-  is-nowhere d (over c y) = no-pick c d
+  is-nowhere d (over c y) = no-child c d
   is-nowhere d (none c) = refl
 
 pub one-reading : {t names s : List ℕ} {h n : ℕ} {seen : Seen} {r r′ : Header} → Reads t names s h n seen r → Reads t names s h n seen r′ → r ≡ r′

@@ -6,7 +6,7 @@ use mathlib.Core.Bool.{Bool, true, false}
 use native.Mathlib.Omega.{arith}
 use lib.ListN.{length}
 use Rattle.node.specs.Tree.{branch}
-use Rattle.branch.specs.Children.{Below, spokenBy, unsaidIn, Picks, first-one}
+use Rattle.branch.specs.Children.{spokenBy, unsaidIn, Picks, first-one}
 use Rattle.branch.specs.declared.Pick.{Pick}
 use Rattle.branch.specs.declared.Pick.the-variants as pick
 use Rattle.branch.proofs.Picks.{below-in}

@@ -1,14 +1,15 @@
 -- The claims.
-use Prim.Native.Nat.{ℕ, _≤_, _<_}
+use Prim.Native.Nat.{ℕ, suc, _≤_, _<_}
 use mathlib.Core.Path.{_≡_, refl, sym, ap, _∙_}
 use mathlib.Core.Logic.{_⊎_, inl, inr}
-use mathlib.Core.List.{List, [], _∷_}
+use mathlib.Core.List.{List, [], _∷_, _++_}
 use mathlib.Core.Bool.{Bool, true, false, cond, _&&_, and-false, false≢true}
 use native.Mathlib.Omega.{arith}
 use lib.Dec.{eqb, ltb}
-use lib.ListN.{length, getD}
-use borrow.Author.Tests.{eqb-true}
+use lib.ListN.{length, getD, length-append}
+use borrow.Author.Tests.{eqb-true, lt-ltb}
 use Rattle.error.specs.declared.ErrorCode.the-variants.{UndefinedHeader}
+use Rattle.kind.specs.Text.{ascii}
 use Rattle.kind.specs.Class.{isCapital, isSmall, isLetter}
 use Rattle.kind.proofs.Tests.{clash, less-or-not}
 use Rattle.util.specs.Run.{standsAt}
@@ -22,7 +23,7 @@ use Rattle.token.specs.declared.Token.the-variants.{HeaderMnemonicSeparator}
 use Rattle.tokenizer.specs.Step.{ofMessage}
 use Rattle.tokenizer.specs.declared.State.{State}
 use Rattle.header.specs.Seen.{seenAt}
-use Rattle.header.specs.Header.{isCommon, Begins}
+use Rattle.header.specs.Header.{isCommon, keeping, Begins}
 use Rattle.header.specs.declared.Stop.the-variants as end
 use Rattle.header.specs.declared.Ahead.the-variants as ahead
 use Rattle.header.specs.declared.Header.{Header}
@@ -30,14 +31,14 @@ use Rattle.header.proofs.Claims as header
 use Rattle.header.proofs.Once.{Began, began-at, at-root, starred, plain}
 use Rattle.tree.specs.Route.{Leads}
 use Rattle.tree.specs.Alone.{closing, Resolves, no-branch, too-long, one-header, ResolvesAlone}
-use Rattle.tree.specs.WellFormed.{Mnemonic, Joined, last, before, WellFormed, Tokens, next, Shown}
-use Rattle.tree.specs.Claims.{Answers, Claims}
+use Rattle.tree.specs.WellFormed.{Mnemonic, Joined, last, before, WellFormed, Common, Tokens, next, Shown}
+use Rattle.tree.specs.Claims.{Answers, withBranch, Claims}
 use Rattle.tree.specs.declared.Resolved.{Resolved}
 use Rattle.tree.specs.declared.Resolved.the-variants.{Command, Refused}
 use Rattle.tree.proofs.Unique.{unique}
 use Rattle.tree.proofs.Outcomes.{Outcome, routed, lost}
 use Rattle.tree.proofs.Hearing.{heard}
-use Rattle.tree.proofs.Spoken.{reads}
+use Rattle.tree.proofs.Spoken.{reads, reads-common}
 use Rattle.tree.proofs.Saying.{token-seen, Said, from-there, said}
 use Rattle.tree.proofs.Once.{one-resolves, past-check, unchecked, one-alone}
 
@@ -164,6 +165,49 @@ demand t names b s rooted words query r a m f x =
     let ok = table.claims .accepted t names a in
     answers t names (cond rooted 0 b) words query ok (final t names words query b s ok m rooted f (past-check a x))
 
+-- a common command
+
+-- a word of 12 characters, and its form, have not 65,535
+short-text : (w : List ℕ) → length w ≤ 12 → (q : Bool) → length (w ++ cond q (ascii "?") []) ≤ 65535
+short-text w l false = omega (arith, length-append w [])
+short-text w l true = omega (arith, length-append w (ascii "?"))
+
+star-first : (s word : List ℕ) (query : Bool) → Common s word query → {first : List ℕ} {rest : List (List ℕ)} → _≡_ {A = List (List ℕ)} (word ∷ []) (first ∷ rest)
+    → standsAt 42 first 0 ≡ true
+unfolding standsAt
+star-first s word query f {first} e =
+    let z : first ≡ 42 ∷ f .mnemonic = sym (ap (firstOf first) e) ∙ f .starred in
+    rw (z, lt-ltb 0 (suc (length (f .mnemonic))) (omega arith))
+
+module _ (t names : List ℕ) (b : ℕ) (s word : List ℕ) (query : Bool) (ok : Tree t names) (m : branch t b ≡ true) (f : Common s word query) where
+  -- as from the root, with the branch b kept
+  abbrev Kept : Resolved → Type 0
+  Kept r = (a : Resolved) × Answers t names 0 (word ∷ []) query a × (r ≡ withBranch b a)
+
+  kept-so : {r : Header} {st : State} → Outcome t names query end.Text st 0 0 (word ∷ []) r → closing (keeping b r) ≡ withBranch b (closing r)
+  kept-so (routed x) = refl
+  kept-so (lost l) = refl
+
+  x : Said s (word ∷ []) query ofMessage
+  x = let z = reads-common s word query f in said (z .2) (z .1)
+
+  starred-word : isCommon s (x .view) ≡ true
+  starred-word = rw (x .shows) (star-first s word query f (x .parts))
+
+  heard-common : {r : Header} → Began t names s b (seenAt s ofMessage) (ahead.Word (x .view)) r → Kept (closing r)
+  heard-common (starred {r = r} c y) =
+      let o = heard ok (from-there x) y in
+      (closing r, answers t names 0 (word ∷ []) query ok (final-of t names (word ∷ []) query o), kept-so o)
+  heard-common (plain c y) = clash starred-word c
+
+  common-so : {r : Resolved} → Resolves t names b s r → Kept r
+  common-so (no-branch l) = clash m l
+  common-so (too-long l h) = absurd (omega (arith, common-fits))
+    where
+      common-fits : length s ≤ 65535
+      common-fits = rw (f .text) (short-text word (f .short) query)
+  common-so (one-header l h g) = heard-common (began-at m (x .there) g)
+
 some-resolves : (t names : List ℕ) (b : ℕ) (s : List ℕ) → (r : Resolved) × Resolves t names b s r
 some-resolves t names b s = go (branch t b) refl (less-or-not 65535 (length s))
   where
@@ -176,6 +220,7 @@ pub claims : Claims
 claims =
     record {
       demand = demand;
+      common = λ t names b s word query r a m f x. common-so t names b s word query (table.claims .accepted t names a) m f (past-check a x);
       reads = reads;
       unchecked = λ t names b s. unchecked;
       some-unchecked = some-resolves;

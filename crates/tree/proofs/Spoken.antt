@@ -1,5 +1,5 @@
 -- The token step reads a well-formed header as its mnemonics.
-use Prim.Native.Nat.{ℕ, _+_, _-_, _<_}
+use Prim.Native.Nat.{ℕ, suc, _+_, _-_, _≤_, _<_}
 use mathlib.Core.Path.{_≡_, refl, sym, ap, _∙_}
 use mathlib.Core.Logic.{_⊎_, inl, inr, ⊎-elim}
 use mathlib.Core.List.{List, [], _∷_, _++_, append-assoc}
@@ -14,20 +14,21 @@ use Rattle.kind.specs.Class.{isWhiteSpace, isCapital, isSmall, isDigit, isLette
 use Rattle.kind.specs.Kind.{kindOf}
 use Rattle.kind.proofs.Bytes.{agrees}
 use Rattle.kind.proofs.Tests.{either, or-right, and-right}
+use Rattle.util.specs.Run.{runEnd, every}
 use Rattle.token.specs.View.{viewOf, partOf}
 use Rattle.token.specs.declared.View.{View}
 use Rattle.token.specs.declared.Token.{Token}
 use Rattle.token.specs.declared.Token.the-variants.{HeaderMnemonicSeparator, HeaderQuerySuffix, ProgramMnemonic}
 use Rattle.item.specs.Follow.{token}
-use Rattle.item.specs.Word.{mnemonic}
-use Rattle.item.proofs.Words.{star-none′}
+use Rattle.item.specs.Word.{starEnd, mnemonic}
+use Rattle.item.proofs.Words.{star-there′, star-none′}
 use Rattle.item.proofs.Seams.{here-get, here-inside, here-next, here-run, here-length}
 use Rattle.tokenizer.specs.Step.{stateOf, ofMessage, taken, readAs, followsColon, colonBefore, followsQuery, questionBefore, wordAt, step}
 use Rattle.tokenizer.specs.declared.State.{State}
 use Rattle.tokenizer.specs.declared.Answer.the-variants as answer
 use Rattle.tokenizer.specs.declared.Step.{Step}
-use Rattle.tokenizer.proofs.Steps.{end′, colon′, question′, small′, capital′}
-use Rattle.tree.specs.WellFormed.{Mnemonic, Joined, last, before, WellFormed, Tokens, no-more, next, Shown, event, query, then}
+use Rattle.tokenizer.proofs.Steps.{end′, star′, colon′, question′, small′, capital′}
+use Rattle.tree.specs.WellFormed.{Mnemonic, Joined, last, before, WellFormed, Common, Tokens, no-more, next, Shown, event, query, then}
 
 -- letters have one of two kinds
 
@@ -109,16 +110,49 @@ module _ (s : List ℕ) (p : ℕ) where
   pub colon-step : (y : List ℕ) → drop p s ≡ 58 ∷ y → isLetter (getD y 0 0) ≡ true → step s (inHeaderAt p) ≡ taken HeaderMnemonicSeparator (p + 1) true false
   colon-step y h e = sym (colon′ s (inHeaderAt p) (here-inside s p 58 y h) _ refl _ (colon-kind y h) (sym (colon-well y h e)))
 
-  question-well : drop p s ≡ 63 ∷ [] → questionBefore s (inHeaderAt p) (p + 1) ≡ taken HeaderQuerySuffix (p + 1) false false
-  unfolding questionBefore followsQuery
-  question-well h = rw (le-leb (length s) (p + 1) (omega (arith, here-length s p (63 ∷ []) h)))
+  module _ (common : Bool) (h : drop p s ≡ 63 ∷ []) where
+    question-well : questionBefore s (stateOf p true common) (p + 1) ≡ taken HeaderQuerySuffix (p + 1) false common
+    unfolding questionBefore followsQuery
+    question-well = rw (le-leb (length s) (p + 1) (omega (arith, here-length s p (63 ∷ []) h)))
 
-  question-kind : drop p s ≡ 63 ∷ [] → kindOf (getD s p 0) ≡ 4
-  unfolding kindOf isWhiteSpace
-  question-kind h = rw (here-get s p (63 ∷ []) h)
+    question-kind : kindOf (getD s p 0) ≡ 4
+    unfolding kindOf isWhiteSpace
+    question-kind = rw (here-get s p (63 ∷ []) h)
 
-  pub question-step : drop p s ≡ 63 ∷ [] → step s (inHeaderAt p) ≡ taken HeaderQuerySuffix (p + 1) false false
-  question-step h = sym (question′ s (inHeaderAt p) (here-inside s p 63 [] h) _ refl _ (question-kind h) (sym (question-well h)))
+    pub question-step : step s (stateOf p true common) ≡ taken HeaderQuerySuffix (p + 1) false common
+    question-step = sym (question′ s (stateOf p true common) (here-inside s p 63 [] h) _ refl _ question-kind (sym question-well))
+
+  -- a star, a word, and behind it what is not of a word
+  module _ (x y : List ℕ) (h : drop p s ≡ 42 ∷ (x ++ y)) (all : every inMnemonic x ≡ true) (short : length x ≤ 11) (n : inMnemonic (getD y 0 0) ≡ false) where
+    star-here : starEnd s p ≡ p + 1
+    star-here = sym (star-there′ s p (here-inside s p 42 (x ++ y) h) (here-get s p (42 ∷ (x ++ y)) h))
+
+    star-run : runEnd inMnemonic s (p + 1) ≡ p + 1 + length x
+    star-run = here-run s (p + 1) x y (here-next s p (42 ∷ []) (x ++ y) h) inMnemonic all n
+
+    star-mnemonic : mnemonic s p ≡ token (ProgramMnemonic (viewOf p (p + 1 + length x))) (p + 1 + length x)
+    unfolding mnemonic
+    star-mnemonic = rw (star-here, star-run, le-leb (p + 1 + length x - p) 12 (omega arith))
+
+    star-kind : kindOf (getD s p 0) ≡ 2
+    unfolding kindOf isWhiteSpace
+    star-kind = rw (here-get s p (42 ∷ (x ++ y)) h)
+
+    star-read : readAs s (inHeaderAt p) true (mnemonic s p) ≡ taken (ProgramMnemonic (viewOf p (p + 1 + length x))) (p + 1 + length x) true true
+    unfolding readAs
+    star-read = rw star-mnemonic
+
+    pub star-step : step s (inHeaderAt p) ≡ taken (ProgramMnemonic (viewOf p (p + 1 + length x))) (p + 1 + length x) true true
+    star-step = sym (star′ s (inHeaderAt p) (here-inside s p 42 (x ++ y) h) _ refl _ star-kind _ refl (sym star-read))
+
+    pub star-part : partOf s (viewOf p (p + 1 + length x)) ≡ 42 ∷ x
+    unfolding partOf
+    star-part =
+        let k : p + 1 + length x - p ≡ suc (length x) = omega arith in
+        let l = here-length s p (42 ∷ (x ++ y)) h in
+        let i = here-inside s p 42 (x ++ y) h in
+        rw (le-leb (p + 1 + length x) (length s) (omega (arith, l, length-append x y, i)), le-leb p (p + 1 + length x) (omega arith), k, h)
+        (ap (λ (z : List ℕ). 42 ∷ z) (take-append-seam x y))
 
   -- nothing is left
   pub at-end : drop p s ≡ [] → (header common : Bool) → (step s (stateOf p header common)) .answer ≡ answer.End
@@ -144,9 +178,11 @@ module _ (s : List ℕ) where
   on st t p header common tokens e x = next {tokens = tokens} (ap (λ (z : Step). z .answer) e) (rw e x)
 
   -- behind the last mnemonic
-  form-tokens : (q : Bool) (p : ℕ) → drop p s ≡ cond q (ascii "?") [] → Tokens s (inHeaderAt p) (cond q (HeaderQuerySuffix ∷ []) [])
-  form-tokens false p h = no-more (at-end s p h true false)
-  form-tokens true p h = on (inHeaderAt p) HeaderQuerySuffix (p + 1) false false [] (question-step s p h) (no-more (at-end s (p + 1) (here-next s p (63 ∷ []) [] h) false false))
+  form-tokens : (q : Bool) (p : ℕ) (common : Bool) → drop p s ≡ cond q (ascii "?") [] → Tokens s (stateOf p true common) (cond q (HeaderQuerySuffix ∷ []) [])
+  form-tokens false p common h = no-more (at-end s p h true common)
+  form-tokens true p common h =
+      on (stateOf p true common) HeaderQuerySuffix (p + 1) false common [] (question-step s p common h)
+      (no-more (at-end s (p + 1) (here-next s p (63 ∷ []) [] h) false common))
 
   shown : (q : Bool) (w : List ℕ) (v : View) → partOf s v ≡ w → Shown s (w ∷ []) q (ProgramMnemonic v ∷ cond q (HeaderQuerySuffix ∷ []) [])
   shown false w v e = event e
@@ -172,7 +208,7 @@ module _ (s : List ℕ) where
   joined-tokens q (last {w} m) p h =
       let y = cond q (ascii "?") [] in (
         ProgramMnemonic (viewOf p (p + length w)) ∷ cond q (HeaderQuerySuffix ∷ []) [],
-        word-tokens p w y m h (form-none q) (cond q (HeaderQuerySuffix ∷ []) []) (form-tokens q (p + length w) (here-next s p w y h)),
+        word-tokens p w y m h (form-none q) (cond q (HeaderQuerySuffix ∷ []) []) (form-tokens q (p + length w) false (here-next s p w y h)),
         shown q w (viewOf p (p + length w)) (word-part s p w y m h (form-none q)),
       )
   joined-tokens q (before {w} {text} m j) p h =
@@ -195,3 +231,19 @@ reads s true words q f =
     let y = f .mnemonics ++ cond q (ascii "?") [] in
     let z = joined-tokens s q (f .joins) 1 (here-next s 0 (58 ∷ []) y (f .text)) in
     (z .0, on s ofMessage HeaderMnemonicSeparator 1 true false (z .0) (colon-step s 0 y (f .text) (joined-begins s (cond q (ascii "?") []) (f .joins))) (z .1), z .2)
+
+-- the tokens of a common command
+pub reads-common : (s word : List ℕ) (q : Bool) → Common s word q → (tokens : List Token) × Tokens s ofMessage tokens × Shown s (word ∷ []) q tokens
+reads-common s word q f =
+    let x = f .mnemonic in
+    let y = cond q (ascii "?") [] in
+    let h : drop 0 s ≡ 42 ∷ (x ++ y) = rw (f .starred) at (f .text) in
+    let l : suc (length x) ≤ 12 = rw (f .starred) at (f .short) in
+    let a = f .all in
+    let n = form-none s q in
+    let d : drop (0 + 1 + length x) s ≡ y = here-next s 1 x y (here-next s 0 (42 ∷ []) (x ++ y) h) in
+    let v = viewOf 0 (0 + 1 + length x) in (
+      ProgramMnemonic v ∷ cond q (HeaderQuerySuffix ∷ []) [],
+      on s ofMessage (ProgramMnemonic v) (0 + 1 + length x) true true (cond q (HeaderQuerySuffix ∷ []) []) (star-step s 0 x y h a (omega arith) n) (form-tokens s q (0 + 1 + length x) true d),
+      shown s q word v (star-part s 0 x y h a (omega arith) n ∙ sym (f .starred)),
+    )

@@ -2,7 +2,7 @@
 use Prim.Native.Nat.{ℕ}
 use mathlib.Core.Path.{_≡_}
 use mathlib.Core.Logic.{_⊎_, _↔_}
-use mathlib.Core.List.{List, _∷_}
+use mathlib.Core.List.{List, [], _∷_}
 use mathlib.Core.Bool.{Bool, true, cond}
 use Rattle.error.specs.declared.ErrorCode.the-variants.{UndefinedHeader}
 use Rattle.node.specs.Tree.{branch}
@@ -12,7 +12,7 @@ use Rattle.token.specs.declared.Token.the-variants.{HeaderMnemonicSeparator}
 use Rattle.tokenizer.specs.Step.{ofMessage}
 use Rattle.tree.specs.Route.{Stage, Route, Leads}
 use Rattle.tree.specs.Alone.{Resolves, ResolvesAlone}
-use Rattle.tree.specs.WellFormed.{WellFormed, Tokens, Shown}
+use Rattle.tree.specs.WellFormed.{WellFormed, Common, Tokens, Shown}
 use Rattle.tree.specs.declared.Resolved.{Resolved}
 use Rattle.tree.specs.declared.Resolved.the-variants.{Command, Refused}
 
@@ -28,12 +28,21 @@ pub record Answers (t names : List ℕ) (b : ℕ) (words : List (List ℕ)) (que
   -- and it is one or the other
   pub either : ((c : ℕ) × (kept : ℕ) × (r ≡ Command c query kept)) ⊎ (r ≡ Refused UndefinedHeader)
 
+-- the same answer, with the branch b kept
+abbrev pub withBranch : ℕ → Resolved → Resolved
+withBranch b (Command c query kept) = Command c query b
+withBranch b (Refused e) = Refused e
+
 pub record Claims : Type 0 where
   -- Take a table that the check accepts, any branch of it as the start, and a well-formed header of one or more mnemonics without star
   -- within the limits: its answer is so. A leading colon starts at the root.
   pub demand : (t names : List ℕ) (b : ℕ) (s : List ℕ) (rooted : Bool) (words : List (List ℕ)) (query : Bool) (r : Resolved)
       → Accepted t names → branch t b ≡ true → WellFormed s rooted words query → ResolvesAlone t names b s r
       → Answers t names (cond rooted 0 b) words query r
+  -- the header of a common command is answered as from the root, and the branch stays
+  pub common : (t names : List ℕ) (b : ℕ) (s word : List ℕ) (query : Bool) (r : Resolved)
+      → Accepted t names → branch t b ≡ true → Common s word query → ResolvesAlone t names b s r
+      → (a : Resolved) × Answers t names 0 (word ∷ []) query a × (r ≡ withBranch b a)
   -- the token step reads a well-formed header as its mnemonics
   pub reads : (s : List ℕ) (rooted : Bool) (words : List (List ℕ)) (query : Bool) → WellFormed s rooted words query
       → (tokens : List Token) × Tokens s ofMessage (cond rooted (HeaderMnemonicSeparator ∷ tokens) tokens) × Shown s words query tokens

@@ -34,6 +34,16 @@ pub record WellFormed (s : List ℕ) (rooted : Bool) (words : List (List ℕ)) (
   pub text : s ≡ cond rooted (ascii ":") [] ++ (mnemonics ++ cond query (ascii "?") [])
   pub fits : length s ≤ 65535
 
+-- IEEE 488.2 7.6.1.2: the header of a common command: a star and one mnemonic, 12 characters at most with the star, and perhaps a
+-- question mark
+pub record Common (s word : List ℕ) (query : Bool) : Type 0 where
+  pub mnemonic : List ℕ
+  pub starred : word ≡ ascii "*" ++ mnemonic
+  pub begins : isLetter (getD mnemonic 0 0) ≡ true
+  pub all : every inMnemonic mnemonic ≡ true
+  pub short : length word ≤ 12
+  pub text : s ≡ word ++ cond query (ascii "?") []
+
 -- the tokens from a state to the end of the text, none refused
 pub data Tokens (s : List ℕ) : State → List Token → Type 0 where
   no-more : {st : State} → (step s st) .answer ≡ answer.End → Tokens s st []

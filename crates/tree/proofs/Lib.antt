@@ -6,5 +6,6 @@ pub mod Hearing
 pub mod Spoken
 pub mod Saying
 pub mod Once
+pub mod Faultless
 pub mod Worked
 pub mod Claims

@@ -1,8 +1,14 @@
 -- A worked tree, that of the program commandcheck, and routes through it.
 use Prim.Native.Nat.{ℕ, _+_, _*_, _^_}
+use mathlib.Core.Path.{_≡_}
 use mathlib.Core.List.{List, [], _∷_}
+use mathlib.Core.Bool.{false}
 use Rattle.kind.specs.Text.{ascii}
+use Rattle.table.specs.Fault.{Accepted}
 use Rattle.tree.specs.Route.{Leads}
+use Rattle.tree.specs.Alone.{ResolvesAlone}
+use Rattle.tree.specs.declared.Resolved.{Resolved}
+use Rattle.tree.specs.declared.Resolved.the-variants.{Command}
 
 -- a leaf and a branch: their default bit, the length and the start of their name, and a leaf's command or a branch's first child and
 -- child count
@@ -36,12 +42,16 @@ abbrev pub Here : ℕ → List (List ℕ) → ℕ → ℕ → Type 0
 Here = Leads nodes names
 
 pub record Worked : Type 0 where
+  -- the check accepts it
+  pub accepted : Accepted nodes names
   -- both nodes spoken
   pub route-close : Here 0 (ascii "ROUT" ∷ ascii "CLOS" ∷ []) 3 2
   -- from ROUTe its child alone, in its long form
   pub open-from-route : Here 2 (ascii "open" ∷ []) 4 2
   -- SENSe and DC unsaid: SENSe holds the node spoken last
   pub voltage : Here 0 (ascii "VOLT" ∷ []) 6 3
+  -- and so this is what the text is answered
+  pub voltage-text : (r : Resolved) → ResolvesAlone nodes names 0 (ascii "VOLT") r → r ≡ Command 6 false 3
   -- DC spoken: VOLTage holds it
   pub voltage-dc : Here 0 (ascii "VOLTage" ∷ ascii "DC" ∷ []) 6 7
   -- SENSe spoken, DC unsaid

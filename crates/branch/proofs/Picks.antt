@@ -13,7 +13,8 @@ use Rattle.mnemonic.specs.Mnemonic.{matches}
 use Rattle.node.specs.Word.{isBranch, isDefault, firstChild, childCount, nameIn}
 use Rattle.node.specs.Tree.{Child}
 use Rattle.node.proofs.Laws.{block-fits′, past-table}
-use Rattle.branch.specs.Children.{Below, spokenBy, unsaidIn, Picks, first-one, not-one, Covers}
+use Rattle.branch.specs.Children.{Below, spokenBy, unsaidIn, Picks, first-one, not-one}
+use Rattle.branch.specs.Parts.{Covers}
 use Rattle.branch.specs.declared.Pick.the-variants as pick
 
 -- where the children stand

@@ -28,8 +28,3 @@ unsaidIn t k = default t k
 pub data Picks (t : List ℕ) (b : ℕ) (p : ℕ → Bool) : Pick → Type 0 where
   first-one : {k : ℕ} → Below t b k → p k ≡ true → ((j : ℕ) → Below t b j → j < k → p j ≡ false) → Picks t b p (pick.Child k)
   not-one : ((j : ℕ) → Below t b j → p j ≡ false) → Picks t b p pick.None
-
--- the nodes from one place up to another, and not the one there, are the children of b in the sense of `Below`
-pub record Covers (t : List ℕ) (b from to : ℕ) : Type 0 where
-  pub only : (k : ℕ) → from ≤ k → k < to → Below t b k
-  pub all : (k : ℕ) → Below t b k → (from ≤ k) × (k < to)

@@ -1,5 +1,6 @@
 // The children of a branch: the one that a word spells, and the default one. `exec` of tree/mod.rs of the original looks for these.
-ghost use Rattle.branch.specs.Children.{spokenBy, unsaidIn, Covers, Picks};
+ghost use Rattle.branch.specs.Children.{spokenBy, unsaidIn, Picks};
+ghost use Rattle.branch.specs.Parts.{Covers};
 
 // The child that was looked for.
 pub enum Pick {

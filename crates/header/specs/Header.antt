@@ -26,7 +26,7 @@ use Rattle.header.specs.declared.Turn.the-variants as turn
 use Rattle.header.specs.declared.Header.{Header}
 use Rattle.header.specs.declared.Header.the-variants as header
 
--- SCPI-99 21.8.3: undefined header, -113
+-- SCPI-99 21.8: undefined header, -113
 abbrev pub undefined : Header
 undefined = header.Refused refusal.UndefinedHeader
 

@@ -11,11 +11,18 @@ use Rattle.kind.proofs.Tests.{clash}
 use Rattle.util.proofs.Before.{Before, none-yet, one-more}
 use Rattle.mnemonic.specs.Mnemonic.{matches}
 use Rattle.node.specs.Word.{isBranch, isDefault, firstChild, childCount, nameIn}
-use Rattle.node.specs.Tree.{Child}
+use Rattle.node.specs.Tree.{branch}
 use Rattle.node.proofs.Laws.{block-fits′, past-table}
 use Rattle.branch.specs.Children.{Below, spokenBy, unsaidIn, Picks, first-one, not-one}
 use Rattle.branch.specs.Parts.{Covers}
 use Rattle.branch.specs.declared.Pick.the-variants as pick
+
+-- whether a node is a branch
+
+pub outside′ : (t : List ℕ) (b : ℕ) → length t ≤ b → false ≡ branch t b
+outside′ t b h = sym (past-table t b h)
+
+pub ruleset branch-laws = (needs, outside′)
 
 -- where the children stand
 

@@ -1,4 +1,7 @@
-// The children of a branch: the one that a word spells, and the default one. `exec` of tree/mod.rs of the original looks for these.
+// The branches of a table and their children: the one that a word spells, and the default one. `exec` of tree/mod.rs of the original
+// looks for these.
+ghost use mathlib.Core.Path.{_≡_};
+ghost use Rattle.node.specs.Tree.{branch};
 ghost use Rattle.branch.specs.Children.{spokenBy, unsaidIn, Picks};
 ghost use Rattle.branch.specs.Parts.{Covers};
 
@@ -12,6 +15,16 @@ pub enum Pick {
 struct Block {
     from: usize,
     to: usize,
+}
+
+// Whether a node is a branch of the table.
+pub fn is_branch(nodes: &[u64], b: usize) -> bool
+    ensures { λ r. ⌜ r ≡ branch (now (nodes .entry)) b ⌝ }
+{
+    if b < nodes.len() {
+        return node::is_branch(nodes[b]);
+    }
+    false
 }
 
 // The first child of a branch that the word spells.

@@ -13,7 +13,6 @@ use Rattle.error.specs.declared.ErrorCode.the-variants as refusal
 use Rattle.kind.proofs.Tests.{clash, less-or-not}
 use Rattle.util.specs.Run.{standsAt}
 use Rattle.node.specs.Word.{isBranch}
-use Rattle.node.specs.Tree.{branch}
 use Rattle.node.proofs.Laws.{past-table}
 use Rattle.token.specs.View.{partOf}
 use Rattle.token.specs.declared.View.{View}
@@ -26,11 +25,6 @@ use Rattle.header.specs.declared.Header.{Header}
 use Rattle.header.specs.declared.Header.the-variants as header
 
 -- the start
-
-pub past′ : (t : List ℕ) (b : ℕ) → length t ≤ b → false ≡ branch t b
-past′ t b h = sym (past-table t b h)
-
-pub ruleset start-laws = (needs, past′)
 
 module _ (t : List ℕ) (b : ℕ) (r : Bool) (e : r ≡ isBranch (getD t b 0)) (q : not r ≡ false) where
   pub start-in′ : b < length t

@@ -2,7 +2,6 @@
 ghost use Prim.Native.Nat.{_<_};
 ghost use mathlib.Core.Path.{_≡_};
 ghost use lib.ListN.{length};
-ghost use Rattle.node.specs.Tree.{branch};
 ghost use Rattle.header.specs.Seen.{tokenAhead, aheadOf, seenAt};
 ghost use Rattle.header.specs.Header.{turnOf, behindColon, leafAnswer, queryAnswer, keeping, Reads, Begins};
 use branch::Pick;
@@ -61,7 +60,7 @@ pub enum Header {
 pub fn resolve(nodes: &[u64], names: &[u8], s: &[u8], start: usize, seen: Seen) -> Header
     ensures { λ r. ⌜ Begins (now (nodes .entry)) (now (names .entry)) (now (s .entry)) start seen r ⌝ }
 {
-    if !is_branch(nodes, start) {
+    if !branch::is_branch(nodes, start) {
         return Header::Refused(ErrorCode::StartIsNoBranch);
     }
     let ahead = seen.ahead;
@@ -78,16 +77,6 @@ pub fn resolve(nodes: &[u64], names: &[u8], s: &[u8], start: usize, seen: Seen) 
             descend(nodes, names, s, start, start, seen)
         }
     }
-}
-
-// Whether a node is a branch of the table.
-pub fn is_branch(nodes: &[u64], b: usize) -> bool
-    ensures { λ r. ⌜ r ≡ branch (now (nodes .entry)) b ⌝ }
-{
-    if b < nodes.len() {
-        return node::is_branch(nodes[b]);
-    }
-    false
 }
 
 // The same command, with another branch kept.

@@ -31,7 +31,7 @@ pub fn resolve(nodes: &[u64], names: &[u8], start: usize, s: &[u8]) -> Resolved
 pub fn resolve_accepted(nodes: &[u64], names: &[u8], start: usize, s: &[u8]) -> Resolved
     ensures { λ r. ⌜ Resolves (now (nodes .entry)) (now (names .entry)) start (now (s .entry)) r ⌝ }
 {
-    if !header::is_branch(nodes, start) {
+    if !branch::is_branch(nodes, start) {
         return Resolved::Refused(ErrorCode::StartIsNoBranch);
     }
     if 65535 < s.len() {

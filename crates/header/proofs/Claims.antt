@@ -2,6 +2,14 @@
 use Rattle.header.specs.Claims.{Claims}
 use Rattle.header.proofs.Once.{one-begins}
 use Rattle.header.proofs.Some.{some-beginning}
+use Rattle.header.proofs.Onward.{begins-sound}
 
 pub claims : Claims
-claims = record { some-answer = some-beginning; one-answer = λ t names s b seen. one-begins }
+claims =
+    record {
+      some-answer = some-beginning;
+      one-answer = λ t names s b seen. one-begins;
+      onward = λ t names s b c query kept x seen st h. (begins-sound h) .0;
+      command-fits = λ t names s b c query kept x seen st h. (begins-sound h) .2;
+      keeps = λ t names s b c query kept x seen st h. (begins-sound h) .1;
+    }

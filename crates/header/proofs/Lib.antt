@@ -4,4 +4,5 @@ pub mod Descents
 pub mod Entries
 pub mod Once
 pub mod Some
+pub mod Onward
 pub mod Claims

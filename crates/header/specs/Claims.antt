@@ -1,12 +1,26 @@
 -- What is proved of the reading of headers, besides the promises of the functions. The proofs are in proofs/Claims.
-use Prim.Native.Nat.{ℕ}
+use Prim.Native.Nat.{ℕ, _≤_, _<_}
 use mathlib.Core.Path.{_≡_}
 use mathlib.Core.List.{List}
+use mathlib.Core.Bool.{Bool, true}
+use Rattle.node.specs.Tree.{branch}
+use Rattle.tokenizer.specs.declared.State.{State}
 use Rattle.header.specs.Header.{Begins}
 use Rattle.header.specs.declared.Seen.{Seen}
+use Rattle.header.specs.declared.Stop.{Stop}
 use Rattle.header.specs.declared.Header.{Header}
+use Rattle.header.specs.declared.Header.the-variants as header
 
 pub record Claims : Type 0 where
   -- there is an answer to every header, in every table and from every start, and one only
   pub some-answer : (t names s : List ℕ) (b : ℕ) (seen : Seen) → (r : Header) × Begins t names s b seen r
   pub one-answer : (t names s : List ℕ) (b : ℕ) (seen : Seen) (r q : Header) → Begins t names s b seen r → Begins t names s b seen q → r ≡ q
+  -- a header that is found does not go back in the text
+  pub onward : (t names s : List ℕ) (b c : ℕ) (query : Bool) (kept : ℕ) (x : Stop) (seen : Seen) (st : State) → Begins t names s b seen (header.Found c query kept x st)
+      → seen .state .place ≤ st .place
+  -- its command has 16 bits
+  pub command-fits : (t names s : List ℕ) (b c : ℕ) (query : Bool) (kept : ℕ) (x : Stop) (seen : Seen) (st : State) → Begins t names s b seen (header.Found c query kept x st)
+      → c < 65536
+  -- and, in a table whose root is a branch, it keeps a branch
+  pub keeps : (t names s : List ℕ) (b c : ℕ) (query : Bool) (kept : ℕ) (x : Stop) (seen : Seen) (st : State) → Begins t names s b seen (header.Found c query kept x st)
+      → branch t 0 ≡ true → branch t kept ≡ true

@@ -7,4 +7,5 @@ pub mod Defaults
 pub mod Shared
 pub mod Theorem
 pub mod Verdicts
+pub mod Told
 pub mod Claims

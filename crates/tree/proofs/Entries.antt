@@ -2,16 +2,17 @@
 use Prim.Native.Nat.{ℕ, _≤_, _<_}
 use mathlib.Core.Path.{_≡_, sym, ap, _∙_}
 use mathlib.Core.List.{List}
-use mathlib.Core.Bool.{Bool, true, false, not, false≢true}
+use mathlib.Core.Bool.{Bool, true, false, not}
 use lib.ListN.{length, getD}
 use borrow.Author.Needs.{needs}
 use borrow.Author.Tests.{not-true, not-false}
 use Rattle.error.specs.declared.ErrorCode.{ErrorCode}
 use Rattle.error.specs.declared.ErrorCode.the-variants as refusal
 use Rattle.node.specs.Word.{isBranch}
-use Rattle.table.specs.Fault.{Accepted, Verdict, accepts, refuses}
+use Rattle.table.specs.Fault.{Verdict}
 use Rattle.table.specs.declared.Checked.{Checked}
 use Rattle.table.specs.declared.Checked.the-variants as checked
+use Rattle.table.proofs.Told.{faultless}
 use Rattle.tokenizer.specs.Step.{ofMessage}
 use Rattle.tokenizer.specs.declared.State.{State}
 use Rattle.header.specs.Seen.{seenAt}
@@ -54,22 +55,11 @@ pub ruleset accepted-laws = (needs, no-start′, too-long′, refused′, found�
 
 -- with the table's check
 
-abbrev pub isAccepted : Checked → Bool
-isAccepted checked.Accepted = true
-isAccepted (checked.Fault e) = false
-
 module _ (t names : List ℕ) (x : Checked) (v : Verdict t names x) where
-  faultless : x ≡ checked.Accepted → Accepted t names
-  faultless e = go v e
-    where
-      go : {y : Checked} → Verdict t names y → y ≡ checked.Accepted → Accepted t names
-      go (accepts a) q = a
-      go (refuses f g) q = absurd (false≢true (ap isAccepted q))
-
   pub fault′ : (b : ℕ) (s : List ℕ) (c : ErrorCode) → x ≡ checked.Fault c → ResolvesAlone t names b s (resolved.Refused c)
   fault′ b s c e = fault (rw e at v)
 
   pub sound′ : x ≡ checked.Accepted → (b : ℕ) (s : List ℕ) (r : Resolved) → Resolves t names b s r → ResolvesAlone t names b s r
-  sound′ e b s r o = sound (faultless e) o
+  sound′ e b s r o = sound (faultless v e) o
 
 pub ruleset alone-laws = (needs, fault′, sound′)

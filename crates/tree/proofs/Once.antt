@@ -2,7 +2,6 @@
 use Prim.Native.Nat.{ℕ}
 use mathlib.Core.Path.{_≡_, refl, sym, ap}
 use mathlib.Core.List.{List}
-use mathlib.Core.Bool.{false≢true}
 use native.Mathlib.Omega.{arith}
 use Rattle.error.specs.declared.ErrorCode.{ErrorCode}
 use Rattle.error.specs.declared.ErrorCode.the-variants as refusal
@@ -10,12 +9,12 @@ use Rattle.kind.proofs.Tests.{clash}
 use Rattle.table.specs.Fault.{Accepted, accepts}
 use Rattle.table.specs.declared.Checked.{Checked}
 use Rattle.table.specs.declared.Checked.the-variants as checked
+use Rattle.table.proofs.Told.{no-fault}
 use Rattle.table.proofs.Claims.{claims}
 use Rattle.header.proofs.Once.{one-begins}
 use Rattle.tree.specs.Alone.{closing, Resolves, no-branch, too-long, one-header, ResolvesAlone, fault, sound}
 use Rattle.tree.specs.declared.Resolved.{Resolved}
 use Rattle.tree.specs.declared.Resolved.the-variants as resolved
-use Rattle.tree.proofs.Entries.{isAccepted}
 
 abbrev faultIn : Checked → ErrorCode
 faultIn checked.Accepted = refusal.SyntaxError
@@ -35,7 +34,7 @@ module _ {t names : List ℕ} {b : ℕ} {s : List ℕ} where
 
   -- on an accepted table the check says nothing
   pub past-check : {r : Resolved} → Accepted t names → ResolvesAlone t names b s r → Resolves t names b s r
-  past-check a (fault v) = absurd (false≢true (ap isAccepted (claims .one-verdict t names _ _ v (accepts a))))
+  past-check a (fault v) = no-fault (claims .one-verdict t names _ _ v (accepts a))
   past-check a (sound _ x) = x
 
   pub unchecked : (r r′ : Resolved) → Accepted t names → ResolvesAlone t names b s r → Resolves t names b s r′ → r ≡ r′

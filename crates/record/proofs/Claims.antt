@@ -1,0 +1,50 @@
+-- The claims.
+use Prim.Native.Nat.{ℕ, _+_, _%_, _<_, _^_}
+use mathlib.Core.Path.{_≡_, refl}
+use mathlib.Core.Bool.{Bool, true, false}
+use lib.Dec.{eqb}
+use native.Mathlib.Omega.{arith}
+use Rattle.record.specs.Word.{placed, field, bit, wordOf, recordIn}
+use Rattle.record.specs.Claims.{Fits, Claims}
+use Rattle.record.specs.declared.Record.{Record}
+
+abbrev sum : ℕ → ℕ → ℕ → ℕ → ℕ
+sum c q b n = placed 16 48 c + placed 1 47 q + placed 16 31 b + placed 16 15 n
+
+module _ (c q b n : ℕ) (hc : c < 2 ^ 16) (hq : q < 2) (hb : b < 2 ^ 16) (hn : n < 2 ^ 16) where
+  command-again : field 16 48 (sum c q b n) ≡ c
+  command-again = omega arith
+
+  query-again : field 1 47 (sum c q b n) ≡ q
+  query-again = omega arith
+
+  branch-again : field 16 31 (sum c q b n) ≡ b
+  branch-again = omega arith
+
+  items-again : field 16 15 (sum c q b n) ≡ n
+  items-again = omega arith
+
+bit-fits : (query : Bool) → bit query < 2
+bit-fits true = omega arith
+bit-fits false = omega arith
+
+bit-told : (query : Bool) → eqb (bit query) 1 ≡ query
+bit-told true = refl
+bit-told false = refl
+
+again : (u : Record) → Fits u → recordIn (wordOf u) ≡ u
+unfolding recordIn wordOf
+again u f =
+    let q = bit-fits (u .query) in
+    rw (command-again _ _ _ _ (f .command) q (f .branch) (f .items), query-again _ _ _ _ (f .command) q (f .branch) (f .items), branch-again _ _ _ _ (f .command) q (f .branch) (f .items), items-again _ _ _ _ (f .command) q (f .branch) (f .items), bit-told (u .query))
+
+zero-below : (u : Record) → wordOf u % 2 ^ 15 ≡ 0
+unfolding wordOf
+zero-below u = omega arith
+
+word-fits : (u : Record) → wordOf u < 2 ^ 64
+unfolding wordOf
+word-fits u = omega arith
+
+pub claims : Claims
+claims = record { again = again; zero-below = zero-below; word-fits = word-fits }

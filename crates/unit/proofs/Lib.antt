@@ -1,0 +1,8 @@
+-- Laws that belong to no one function.
+pub mod Entries
+pub mod Lists
+pub mod Units
+pub mod Some
+pub mod Once
+pub mod Onward
+pub mod Claims

@@ -1,0 +1,36 @@
+use Rattle.unit.proofs.Entries.{laws}
+use Rattle.unit.proofs.answer_entry.Statement.{statement}
+use Rattle.unit.proofs.answer_entry.Tie as tie
+
+enum-told : tie.Need-enum-told
+enum-told c = search laws
+
+enum-known-answer : tie.Need-enum-known-answer
+enum-known-answer c = search laws
+
+enum-known-answer-2 : tie.Need-enum-known-answer-2
+enum-known-answer-2 c = search laws
+
+token-entry-requires : tie.Need-token-entry-requires
+token-entry-requires c κs = search laws
+
+returns : tie.Need-returns
+returns c = search laws
+
+returns-2 : tie.Need-returns-2
+returns-2 c = search laws
+
+returns-3 : tie.Need-returns-3
+returns-3 c = search laws
+
+pub answer-entry-spec : {M : Type 1} → statement M
+answer-entry-spec =
+    tie.close
+    (tie.spec
+    enum-told
+    enum-known-answer
+    enum-known-answer-2
+    token-entry-requires
+    returns
+    returns-2
+    returns-3)

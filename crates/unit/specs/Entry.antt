@@ -1,0 +1,43 @@
+-- The tokens of a program message as the data of a unit meet them, IEEE 488.2 7.4.
+use Prim.Native.Nat.{ℕ}
+use mathlib.Core.List.{List}
+use Rattle.error.specs.declared.ErrorCode.the-variants.{SyntaxError}
+use Rattle.token.specs.declared.Token.{Token}
+use Rattle.token.specs.declared.Token.the-variants.{HeaderMnemonicSeparator, HeaderQuerySuffix, ProgramMessageUnitSeparator, ProgramHeaderSeparator, ProgramDataSeparator, ProgramMnemonic, CharacterProgramData, DecimalNumericProgramData, DecimalNumericSuffixProgramData, NonDecimalNumericProgramData, StringProgramData, ArbitraryBlockData, ExpressionProgramData}
+use Rattle.tokenizer.specs.Step.{step}
+use Rattle.tokenizer.specs.declared.Answer.{Answer}
+use Rattle.tokenizer.specs.declared.Answer.the-variants as answer
+use Rattle.tokenizer.specs.declared.State.{State}
+use Rattle.unit.specs.declared.Entry.{Entry}
+use Rattle.unit.specs.declared.Entry.the-variants as entry
+use Rattle.unit.specs.declared.Met.{Met}
+
+-- What a token is among the data. IEEE 488.2 7.7 names seven forms of an item; a unit separator (7.4.1) ends the data. What belongs to a
+-- header has no place there, and is -102; of these only a mnemonic with a star comes out of the token step behind a header.
+abbrev pub tokenEntry : Token → Entry
+tokenEntry (CharacterProgramData v) = entry.Item
+tokenEntry (DecimalNumericProgramData v) = entry.Item
+tokenEntry (DecimalNumericSuffixProgramData v u) = entry.Item
+tokenEntry (NonDecimalNumericProgramData n) = entry.Item
+tokenEntry (StringProgramData v) = entry.Item
+tokenEntry (ArbitraryBlockData v) = entry.Item
+tokenEntry (ExpressionProgramData v) = entry.Item
+tokenEntry ProgramDataSeparator = entry.Comma
+tokenEntry ProgramMessageUnitSeparator = entry.End
+tokenEntry (ProgramMnemonic w) = entry.Refused SyntaxError
+tokenEntry HeaderMnemonicSeparator = entry.Refused SyntaxError
+tokenEntry HeaderQuerySuffix = entry.Refused SyntaxError
+tokenEntry ProgramHeaderSeparator = entry.Refused SyntaxError
+
+-- the end of the text ends the data, and a refusal stays one
+abbrev pub entryOf : Answer → Entry
+entryOf (answer.Token t) = tokenEntry t
+entryOf answer.End = entry.End
+entryOf (answer.Refused e) = entry.Refused e
+
+abbrev pub metWith : Entry → State → Met
+metWith x st = record { entry = x; state = st }
+
+-- what is met from a state on, and the state behind that
+unfoldable pub metAt : List ℕ → State → Met
+metAt s st = metWith (entryOf ((step s st) .answer)) ((step s st) .state)

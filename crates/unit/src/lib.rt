@@ -1,0 +1,172 @@
+// Message units: a header and its items of data. `run_tokens` and `Parameters` of tree/mod.rs of the original.
+ghost use mathlib.Core.Path.{_≡_};
+ghost use Rattle.unit.specs.Entry.{tokenEntry, entryOf, metAt};
+ghost use Rattle.unit.specs.Items.{Items, Joined};
+ghost use Rattle.unit.specs.Unit.{Behind, Reads};
+use error::ErrorCode;
+use header::Header;
+use header::Seen;
+use header::Stop;
+use record::Record;
+use token::Token;
+use tokenizer::Answer;
+use tokenizer::State;
+
+// What a token is among the items of a unit.
+pub enum Entry {
+    // an item of data
+    Item,
+    // `,`
+    Comma,
+    // `;` or the end of the text
+    End,
+    Refused(ErrorCode),
+}
+
+// What was met, and the state behind it.
+pub struct Met {
+    pub entry: Entry,
+    pub state: State,
+}
+
+// How many items a unit has, and the state behind what ended them.
+pub enum Data {
+    Items { count: usize, state: State },
+    Refused(ErrorCode),
+}
+
+// A unit as it is recorded, and the state behind it.
+pub enum Unit {
+    Read { record: Record, state: State },
+    Refused(ErrorCode),
+}
+
+// Reads one unit from a branch, where its first token is seen.
+pub fn read(nodes: &[u64], names: &[u8], s: &[u8], start: usize, seen: Seen) -> Unit
+    ensures { λ r. ⌜ Reads (now (nodes .entry)) (now (names .entry)) (now (s .entry)) start seen r ⌝ }
+{
+    match header::resolve(nodes, names, s, start, seen) {
+        Header::Refused(e) => Unit::Refused(e),
+        Header::Found {
+            command,
+            query,
+            branch,
+            stop,
+            state,
+        } => match behind(s, stop, state) {
+            Data::Refused(e) => Unit::Refused(e),
+            Data::Items { count, state } => {
+                let record = Record {
+                    command,
+                    query,
+                    branch,
+                    items: count,
+                };
+                Unit::Read { record, state }
+            }
+        },
+    }
+}
+
+// The data behind what ended the header: there are none but behind white space.
+fn behind(s: &[u8], stop: Stop, state: State) -> Data
+    ensures { λ r. ⌜ Behind (now (s .entry)) stop state r ⌝ }
+{
+    match stop {
+        Stop::Separator => items(s, state),
+        Stop::Unit => Data::Items { count: 0, state },
+        Stop::Text => Data::Items { count: 0, state },
+    }
+}
+
+// No items, or items with single commas between them.
+fn items(s: &[u8], state: State) -> Data
+    ensures { λ r. ⌜ Items (now (s .entry)) state r ⌝ }
+{
+    let met = meet(s, state);
+    let entry = met.entry;
+    let state = met.state;
+    match entry {
+        Entry::End => Data::Items { count: 0, state },
+        Entry::Refused(e) => Data::Refused(e),
+        Entry::Comma => Data::Refused(ErrorCode::SyntaxError),
+        Entry::Item => joined(s, state),
+    }
+}
+
+// What follows the first item: a comma and an item, as often as they stand there.
+fn joined(s: &[u8], first: State) -> Data
+    ensures { λ r. ⌜ Joined (now (s .entry)) 1 first r ⌝ }
+{
+    let mut count = 1;
+    let mut state = first;
+    loop {
+        let met = meet(s, state);
+        let entry = met.entry;
+        let behind = met.state;
+        match entry {
+            Entry::End => return Data::Items {
+                count,
+                state: behind,
+            },
+            Entry::Refused(e) => return Data::Refused(e),
+            Entry::Item => return Data::Refused(ErrorCode::SyntaxError),
+            Entry::Comma => {}
+        }
+        let met = meet(s, behind);
+        let entry = met.entry;
+        match entry {
+            Entry::Item => {}
+            Entry::Refused(e) => return Data::Refused(e),
+            Entry::End => return Data::Refused(ErrorCode::SyntaxError),
+            Entry::Comma => return Data::Refused(ErrorCode::SyntaxError),
+        }
+        count += 1;
+        state = met.state;
+    }
+}
+
+// What the next token is among the items, and the state behind it.
+fn meet(s: &[u8], state: State) -> Met
+    ensures { λ r. ⌜ r ≡ metAt (now (s .entry)) state ⌝ }
+{
+    let step = tokenizer::next(s, state);
+    let answer = step.answer;
+    let state = step.state;
+    Met {
+        entry: answer_entry(answer),
+        state,
+    }
+}
+
+// The end of the text ends the items.
+fn answer_entry(answer: Answer) -> Entry
+    ensures { λ r. ⌜ r ≡ entryOf answer ⌝ }
+{
+    match answer {
+        Answer::End => Entry::End,
+        Answer::Refused(e) => Entry::Refused(e),
+        Answer::Token(token) => token_entry(token),
+    }
+}
+
+// Among items stand data and commas; `;` ends them.
+fn token_entry(token: Token) -> Entry
+    ensures { λ r. ⌜ r ≡ tokenEntry token ⌝ }
+{
+    match token {
+        Token::CharacterProgramData(_) => Entry::Item,
+        Token::DecimalNumericProgramData(_) => Entry::Item,
+        Token::DecimalNumericSuffixProgramData(_, _) => Entry::Item,
+        Token::NonDecimalNumericProgramData(_) => Entry::Item,
+        Token::StringProgramData(_) => Entry::Item,
+        Token::ArbitraryBlockData(_) => Entry::Item,
+        Token::ExpressionProgramData(_) => Entry::Item,
+        Token::ProgramDataSeparator => Entry::Comma,
+        Token::ProgramMessageUnitSeparator => Entry::End,
+        Token::ProgramMnemonic(_) => Entry::Refused(ErrorCode::SyntaxError),
+        Token::HeaderMnemonicSeparator => Entry::Refused(ErrorCode::SyntaxError),
+        Token::HeaderQuerySuffix => Entry::Refused(ErrorCode::SyntaxError),
+        Token::ProgramHeaderSeparator => Entry::Refused(ErrorCode::SyntaxError),
+    }
+}

@@ -1,0 +1,17 @@
+-- The claims.
+use mathlib.Core.Path.{ap}
+use Rattle.message.specs.Claims.{Claims}
+use Rattle.message.proofs.Some.{some-message}
+use Rattle.message.proofs.Once.{Parts, one-parts, one-walk, one-unchecked, unchecked}
+
+pub claims : Claims
+claims =
+    record {
+      some-message = some-message;
+      one-message = λ t names b s us vs e f x y.
+          let same = one-parts us vs e f x y in
+          (ap (λ (z : Parts). z .units) same, ap (λ (z : Parts). z .ending) same);
+      one-walk = λ t names b s. one-walk;
+      one-unchecked = λ t names b s. one-unchecked;
+      unchecked = λ t names b s. unchecked;
+    }

@@ -1,0 +1,60 @@
+-- Every message has units and an ending.
+use Prim.Native.Nat.{ℕ, zero, suc, _-_, _≤_, _<_}
+use mathlib.Core.Path.{_≡_, refl, sym, ap, _∙_}
+use mathlib.Core.Logic.{_⊎_, inl, inr}
+use mathlib.Core.List.{List, []}
+use mathlib.Core.Bool.{Bool, true, false}
+use native.Mathlib.Omega.{arith}
+use lib.ListN.{length}
+use Rattle.kind.proofs.Tests.{clash, less-or-not}
+use Rattle.node.specs.Tree.{branch}
+use Rattle.tokenizer.specs.Step.{step, ofMessage}
+use Rattle.tokenizer.specs.declared.State.{State}
+use Rattle.tokenizer.specs.declared.Step.{Step}
+use Rattle.tokenizer.proofs.Claims as tokens
+use Rattle.header.specs.Seen.{aheadOf, seenAt}
+use Rattle.unit.specs.Unit.{Reads}
+use Rattle.unit.specs.declared.Unit.{Unit}
+use Rattle.unit.specs.declared.Unit.the-variants as unit
+use Rattle.unit.proofs.Claims as units
+use Rattle.record.specs.declared.Record.{Record}
+use Rattle.message.specs.Message.{isEnd, Ending, Units, none, stopped, next, Message, no-branch, too-long, text}
+
+-- a token that does not end the message moves the place
+pub inside : (s : List ℕ) (st : State) → isEnd ((seenAt s st) .ahead) ≡ false → (st .place < length s) × (st .place < (seenAt s st) .state .place)
+unfolding seenAt
+inside s st f = go (less-or-not (st .place) (length s))
+  where
+    go : (st .place < length s) ⊎ (length s ≤ st .place) → (st .place < length s) × (st .place < (seenAt s st) .state .place)
+    go (inl l) = (l, tokens.claims .moves s st l)
+    go (inr l) = clash (ap (λ (x : Step). isEnd (aheadOf (x .answer))) (tokens.claims .rests s st l)) f
+
+module _ (t names s : List ℕ) where
+  within : (f b : ℕ) (st : State) → length s - st .place < f → (us : List Record) × (e : Ending) × Units t names s b st us e
+  within zero b st l = absurd (omega arith)
+  within (suc f) b st l = go (isEnd ((seenAt s st) .ahead)) refl (within f)
+    where
+      go : (x : Bool) → isEnd ((seenAt s st) .ahead) ≡ x
+          → ((b : ℕ) (st : State) → length s - st .place < f → (us : List Record) × (e : Ending) × Units t names s b st us e)
+          → (us : List Record) × (e : Ending) × Units t names s b st us e
+      go true x rest = (_, _, none x)
+      go false x rest = let z = units.claims .some-answer t names s b (seenAt s st) in by-unit (z .0) (z .1)
+        where
+          by-unit : (r : Unit) → Reads t names s b (seenAt s st) r → (us : List Record) × (e : Ending) × Units t names s b st us e
+          by-unit (unit.Refused c) y = (_, _, stopped x y)
+          by-unit (unit.Read u behind) y =
+              let p = inside s st x in
+              let q = units.claims .onward _ _ _ _ _ _ _ y in
+              let z = rest (u .branch) behind (omega (arith, l, p, q)) in
+              (_, z .1, next x y (z .2))
+
+  pub some-units : (b : ℕ) (st : State) → (us : List Record) × (e : Ending) × Units t names s b st us e
+  some-units b st = within (suc (length s - st .place)) b st (omega arith)
+
+pub some-message : (t names : List ℕ) (b : ℕ) (s : List ℕ) → (us : List Record) × (e : Ending) × Message t names b s us e
+some-message t names b s = go (branch t b) refl (less-or-not 65535 (length s))
+  where
+    go : (x : Bool) → branch t b ≡ x → (65535 < length s) ⊎ (length s ≤ 65535) → (us : List Record) × (e : Ending) × Message t names b s us e
+    go false m l = (_, _, no-branch m)
+    go true m (inl l) = (_, _, too-long m l)
+    go true m (inr l) = let z = some-units t names s b ofMessage in (_, _, text m l (z .2))

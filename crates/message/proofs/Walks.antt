@@ -1,0 +1,149 @@
+-- Laws of the walk, as the code meets them.
+use Prim.Native.Nat.{ℕ, zero, suc, _+_, _-_, _≤_, _<_}
+use mathlib.Core.Path.{_≡_, refl, sym, ap, subst, _∙_}
+use mathlib.Core.List.{List, [], _∷_, _++_, map}
+use mathlib.Core.Bool.{Bool, true, false, not}
+use native.Mathlib.Omega.{arith}
+use lib.ListN.{length, set, length-set, length-append}
+use borrow.Author.Needs.{needs}
+use borrow.Author.Tests.{not-true, not-false, le-leb, lt-leb}
+use Rattle.error.specs.declared.ErrorCode.{ErrorCode}
+use Rattle.error.specs.declared.ErrorCode.the-variants as refusal
+use Rattle.node.specs.Tree.{branch}
+use Rattle.table.specs.Fault.{Accepted, Verdict}
+use Rattle.table.specs.declared.Checked.{Checked}
+use Rattle.table.specs.declared.Checked.the-variants as checked
+use Rattle.tokenizer.specs.Step.{ofMessage}
+use Rattle.tokenizer.specs.declared.State.{State}
+use Rattle.header.specs.Seen.{seenAt}
+use Rattle.header.specs.declared.Seen.{Seen}
+use Rattle.unit.specs.Unit.{Reads}
+use Rattle.unit.specs.declared.Unit.{Unit}
+use Rattle.unit.specs.declared.Unit.the-variants as unit
+use Rattle.record.specs.Word.{wordOf}
+use Rattle.record.specs.declared.Record.{Record}
+use Rattle.message.specs.Message.{isEnd, Ending, complete, refused, Units, none, stopped, next, Message, no-branch, too-long, text, CheckedMessage, fault, sound, written, recorded, Walks}
+use Rattle.message.specs.declared.Walked.{Walked}
+use Rattle.message.specs.declared.Walked.the-variants as walked
+use Rattle.message.proofs.Some.{some-units}
+
+-- the slots: one more word, and what does not fit
+
+written-length : (ws slots : List ℕ) → length (written ws slots) ≡ length slots
+unfolding written
+written-length [] slots = refl
+written-length (w ∷ ws) [] = refl
+written-length (w ∷ ws) (x ∷ slots) = ap suc (written-length ws slots)
+
+one-more : (us : List Record) (u : Record) (slots : List ℕ) → length us < length slots
+    → set (written (map wordOf us) slots) (length us) (wordOf u) ≡ written (map wordOf (us ++ (u ∷ []))) slots
+unfolding written
+one-more [] u [] h = absurd (omega (arith, h))
+one-more [] u (x ∷ slots) h = refl
+one-more (v ∷ us) u [] h = refl
+one-more (v ∷ us) u (x ∷ slots) h = ap (λ l. wordOf v ∷ l) (one-more us u slots (omega (arith, h)))
+
+all-taken : (us vs : List Record) (slots : List ℕ) → length slots ≤ length us → written (map wordOf (us ++ vs)) slots ≡ written (map wordOf us) slots
+unfolding written
+all-taken [] [] [] h = refl
+all-taken [] (v ∷ vs) [] h = refl
+all-taken [] vs (x ∷ slots) h = absurd (omega (arith, h))
+all-taken (u ∷ us) vs [] h = refl
+all-taken (u ∷ us) vs (x ∷ slots) h = ap (λ l. wordOf u ∷ l) (all-taken us vs slots (omega (arith, h)))
+
+to-end : (us : List Record) → us ++ [] ≡ us
+to-end [] = refl
+to-end (u ∷ us) = ap (λ l. u ∷ l) (to-end us)
+
+one-behind : (us : List Record) (u : Record) (vs : List Record) → us ++ (u ∷ vs) ≡ (us ++ (u ∷ [])) ++ vs
+one-behind [] u vs = refl
+one-behind (v ∷ us) u vs = ap (λ l. v ∷ l) (one-behind us u vs)
+
+-- the outcome where there is a slot for each unit, and where there is none for the last
+fitting : (slots : List ℕ) (us : List Record) (e : Ending) → length us ≤ length slots
+    → recorded slots us e ≡ record { says = Rattle.message.specs.Message.told (length us) e; slots = written (map wordOf us) slots }
+unfolding recorded
+fitting slots us e h = rw (le-leb _ _ h)
+
+-- So far: the units that are read and written, and that what follows them is the rest of the message.
+pub record SoFar (t names s : List ℕ) (start : ℕ) (before : List ℕ) (count kept : ℕ) (st : State) (slots : List ℕ) : Type 0 where
+  pub units : List Record
+  pub number : length units ≡ count
+  pub room : count ≤ length before
+  pub words : slots ≡ written (map wordOf units) before
+  pub back : (us : List Record) (e : Ending) → Units t names s kept st us e → Units t names s start ofMessage (units ++ us) e
+
+pub at-front′ : (t names s : List ℕ) (start : ℕ) (before : List ℕ) (st : State) → st ≡ ofMessage → SoFar t names s start before 0 start st before
+unfolding written
+at-front′ t names s start before st e =
+    record { units = []; number = refl; room = omega arith; words = refl; back = λ us f h. subst (λ (x : State). Units t names s start x us f) e h }
+
+module _ (t names s : List ℕ) (start : ℕ) (before : List ℕ) (count kept : ℕ) (st : State) (slots : List ℕ) (so : SoFar t names s start before count kept st slots) where
+  abbrev M : List Record → Ending → Type 0
+  M = Units t names s start ofMessage
+
+  -- the walk ends here, with all units written
+  ends : (e : Ending) → Units t names s kept st [] e → Walks M before (Rattle.message.specs.Message.told count e) slots
+  ends e h =
+      record {
+        units = so .units;
+        ending = e;
+        reads = subst (λ (us : List Record). M us e) (to-end (so .units)) (so .back [] e h);
+        outcome =
+            rw (so .words, ← so .number) (sym (fitting before (so .units) e (rw (← so .number) at (so .room))));
+      }
+
+  module _ (seen : Seen) (p : seen ≡ seenAt s st) (q : Bool) (o : q ≡ isEnd (seen .ahead)) where
+    ended? : isEnd ((seenAt s st) .ahead) ≡ q
+    ended? = ap (λ (x : Seen). isEnd (x .ahead)) (sym p) ∙ sym o
+
+    pub done′ : q ≡ true → Walks M before (walked.Units count) slots
+    done′ h = ends complete (none (ended? ∙ h))
+
+    module _ (h : q ≡ false) (r : Unit) (y : Reads t names s kept seen r) where
+      read : (x : Unit) → r ≡ x → Reads t names s kept (seenAt s st) x
+      read x f = subst (λ (z : Seen). Reads t names s kept z x) p (subst (λ (z : Unit). Reads t names s kept seen z) f y)
+
+      pub refused′ : (e : ErrorCode) → r ≡ unit.Refused e → Walks M before (walked.Refused count e) slots
+      refused′ e f = ends (refused e) (stopped (ended? ∙ h) (read _ f))
+
+      module _ (u : Record) (behind : State) (f : r ≡ unit.Read u behind) where
+        whole : (us : List Record) (e : Ending) → Units t names s (u .branch) behind us e → M (so .units ++ (u ∷ us)) e
+        whole us e x = so .back _ e (next (ended? ∙ h) (read _ f) x)
+
+        pub full′ : length slots ≤ count → Walks M before (walked.Refused count refusal.NoSlotLeft) slots
+        unfolding recorded
+        full′ l =
+            let rest = some-units t names s (u .branch) behind in
+            let us = so .units in
+            let k : length before ≡ count = omega (arith, l, so .room, written-length (map wordOf us) before, ap length (so .words)) in
+            let many : length before < length (us ++ (u ∷ rest .0)) = omega (arith, k, so .number, length-append us (u ∷ rest .0)) in
+            let no-room : length before ≤ length us = omega (arith, k, so .number) in
+            record {
+              units = us ++ (u ∷ rest .0);
+              ending = rest .1;
+              reads = whole (rest .0) (rest .1) (rest .2);
+              outcome = rw (lt-leb _ _ many, k, all-taken us (u ∷ rest .0) before no-room, ← so .words);
+            }
+
+        pub goes-on′ : count < length slots → (w : ℕ) → w ≡ wordOf u → (j : ℕ) → j ≡ count + 1 → (later : List ℕ) → later ≡ set slots count w
+            → SoFar t names s start before j (u .branch) behind later
+        goes-on′ l w e j g later o =
+            let us = so .units in
+            let inside : count < length before = omega (arith, l, written-length (map wordOf us) before, ap length (so .words)) in
+            let more : length us < length before = omega (arith, inside, so .number) in
+            record {
+              units = us ++ (u ∷ []);
+              number = length-append us (u ∷ []) ∙ omega (arith, so .number, g);
+              room = omega (arith, inside, g);
+              words = o ∙ rw (e, so .words, ← so .number) (one-more us u before more);
+              back = λ vs x z. subst (λ (a : List Record). M a x) (one-behind us u vs) (whole vs x z);
+            }
+
+pub less′ : (count n j : ℕ) → count < n → j ≡ count + 1 → n - j < n - count
+less′ count n j l g = omega (arith, l, g)
+
+pub same′ : (slots before : List ℕ) (i w : ℕ) → length slots ≡ length before → (later : List ℕ) → later ≡ set slots i w → length later ≡ length before
+same′ slots before i w e later o = ap length o ∙ length-set slots i w ∙ e
+
+pub ruleset walk-laws = (needs, at-front′, done′, refused′, full′, goes-on′, less′, same′)

@@ -1,0 +1,25 @@
+-- What is proved of messages, besides the promises of the functions. The proofs are in proofs/Claims.
+use Prim.Native.Nat.{ℕ, _≤_, _<_}
+use mathlib.Core.Path.{_≡_}
+use mathlib.Core.List.{List}
+use mathlib.Core.Bool.{Bool, true}
+use lib.ListN.{length}
+use Rattle.table.specs.Fault.{Accepted}
+use Rattle.record.specs.declared.Record.{Record}
+use Rattle.message.specs.Message.{Ending, Message, CheckedMessage, Walks}
+use Rattle.message.specs.declared.Walked.{Walked}
+
+pub record Claims : Type 0 where
+  -- every message has units and an ending, from every start and in every table
+  pub some-message : (t names : List ℕ) (b : ℕ) (s : List ℕ) → (us : List Record) × (e : Ending) × Message t names b s us e
+  -- and these are the only ones
+  pub one-message : (t names : List ℕ) (b : ℕ) (s : List ℕ) (us vs : List Record) (e f : Ending) → Message t names b s us e → Message t names b s vs f
+      → (us ≡ vs) × (e ≡ f)
+  -- so a walk has one answer, and leaves the slots in one way
+  pub one-walk : (t names : List ℕ) (b : ℕ) (s slots : List ℕ) (r q : Walked) (after later : List ℕ) → Walks (CheckedMessage t names b s) slots r after
+      → Walks (CheckedMessage t names b s) slots q later → (r ≡ q) × (after ≡ later)
+  pub one-unchecked : (t names : List ℕ) (b : ℕ) (s slots : List ℕ) (r q : Walked) (after later : List ℕ) → Walks (Message t names b s) slots r after
+      → Walks (Message t names b s) slots q later → (r ≡ q) × (after ≡ later)
+  -- without the check the walk is the same in an accepted table
+  pub unchecked : (t names : List ℕ) (b : ℕ) (s slots : List ℕ) (r q : Walked) (after later : List ℕ) → Accepted t names
+      → Walks (CheckedMessage t names b s) slots r after → Walks (Message t names b s) slots q later → (r ≡ q) × (after ≡ later)

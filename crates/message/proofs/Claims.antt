@@ -2,6 +2,7 @@
 use mathlib.Core.Path.{ap}
 use Rattle.message.specs.Claims.{Claims}
 use Rattle.message.proofs.Some.{some-message}
+use Rattle.message.proofs.Fields.{few-units, whole-records}
 use Rattle.message.proofs.Once.{Parts, one-parts, one-walk, one-unchecked, unchecked}
 
 pub claims : Claims
@@ -14,4 +15,6 @@ claims =
       one-walk = λ t names b s. one-walk;
       one-unchecked = λ t names b s. one-unchecked;
       unchecked = λ t names b s. unchecked;
+      few-units = few-units;
+      whole-records = whole-records;
     }

@@ -3,4 +3,5 @@ pub mod Some
 pub mod Walks
 pub mod Entries
 pub mod Once
+pub mod Fields
 pub mod Claims

@@ -1,9 +1,11 @@
 -- What is proved of messages, besides the promises of the functions. The proofs are in proofs/Claims.
-use Prim.Native.Nat.{ℕ, _≤_, _<_}
+use Prim.Native.Nat.{ℕ, _≤_}
 use mathlib.Core.Path.{_≡_}
-use mathlib.Core.List.{List}
-use mathlib.Core.Bool.{Bool, true}
+use mathlib.Core.List.{List, List·Memᴰ}
+use mathlib.Core.Bool.{true}
 use lib.ListN.{length}
+use Rattle.node.specs.Tree.{branch}
+use Rattle.record.specs.Word.{wordOf, recordIn}
 use Rattle.table.specs.Fault.{Accepted}
 use Rattle.record.specs.declared.Record.{Record}
 use Rattle.message.specs.Message.{Ending, Message, CheckedMessage, Walks}
@@ -23,3 +25,8 @@ pub record Claims : Type 0 where
   -- without the check the walk is the same in an accepted table
   pub unchecked : (t names : List ℕ) (b : ℕ) (s slots : List ℕ) (r q : Walked) (after later : List ℕ) → Accepted t names
       → Walks (CheckedMessage t names b s) slots r after → Walks (Message t names b s) slots q later → (r ≡ q) × (after ≡ later)
+  -- a message has no more units than bytes
+  pub few-units : (t names : List ℕ) (b : ℕ) (s : List ℕ) (us : List Record) (e : Ending) → Message t names b s us e → length us ≤ length s
+  -- in an accepted table each unit keeps a branch of it, and its record is found again in its word
+  pub whole-records : (t names : List ℕ) (b : ℕ) (s : List ℕ) (us : List Record) (e : Ending) → Accepted t names → Message t names b s us e
+      → (u : Record) → List·Memᴰ u us → (branch t (u .branch) ≡ true) × (recordIn (wordOf u) ≡ u)

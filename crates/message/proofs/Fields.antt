@@ -1,0 +1,69 @@
+-- The records of a message in an accepted table: each field has room for its value, and there are no more units than bytes.
+use Prim.Native.Nat.{ℕ, zero, suc, _-_, _≤_, _<_, _^_}
+use mathlib.Core.Path.{_≡_, refl, sym, _∙_}
+use mathlib.Core.Logic.{_⊎_, inl, inr, ⊎-elim}
+use mathlib.Core.List.{List, [], _∷_, List·Memᴰ, List·Memᴰ·not-nil, List·Memᴰ·cases-cons}
+use mathlib.Core.Bool.{true}
+use native.Mathlib.Omega.{arith}
+use lib.ListN.{length}
+use Rattle.error.specs.declared.ErrorCode.the-variants as refusal
+use Rattle.kind.proofs.Tests.{clash, less-or-not}
+use Rattle.node.specs.Tree.{branch}
+use Rattle.node.proofs.Laws.{past-table}
+use Rattle.record.specs.Word.{wordOf, recordIn}
+use Rattle.record.specs.Claims.{Fits}
+use Rattle.record.specs.declared.Record.{Record}
+use Rattle.record.proofs.Claims as records
+use Rattle.table.specs.Fault.{too-many, node-count, Accepted}
+use Rattle.table.proofs.Claims as tables
+use Rattle.tokenizer.specs.Step.{ofMessage}
+use Rattle.tokenizer.specs.declared.State.{State}
+use Rattle.header.specs.declared.Seen.{Seen}
+use Rattle.unit.specs.Unit.{Reads}
+use Rattle.unit.specs.declared.Unit.the-variants as unit
+use Rattle.unit.proofs.Claims as units
+use Rattle.message.specs.Message.{Ending, Units, stopped, next, Message, no-branch, too-long, text}
+use Rattle.message.specs.Message as message
+use Rattle.message.proofs.Some.{inside}
+
+module _ (t names s : List ℕ) (ok : Accepted t names) (short : length s ≤ 65535) where
+  small : length t ≤ 4096
+  small = ⊎-elim (λ h. absurd (ok .faultless refusal.NodeCount 1 (node-count (too-many h)))) (λ h. h) (less-or-not 4096 (length t))
+
+  in-table : (k : ℕ) → branch t k ≡ true → k < length t
+  in-table k m = ⊎-elim (λ h. h) (λ h. clash m (past-table t k h)) (less-or-not k (length t))
+
+  abbrev Whole : Record → Type 0
+  Whole u = (branch t (u .branch) ≡ true) × (recordIn (wordOf u) ≡ u)
+
+  one : {b : ℕ} {seen : Seen} {u : Record} {behind : State} → Reads t names s b seen (unit.Read u behind) → Whole u
+  one {u = u} y =
+      let m = units.claims .keeps _ _ _ _ _ _ _ y (tables.claims .accepted t names ok .root) in
+      let items = units.claims .few-items _ _ _ _ _ _ _ y in
+      let l = in-table (u .branch) m in
+      (m, records.claims .again u (record { command = units.claims .command-fits _ _ _ _ _ _ _ y; branch = omega (arith, l, small); items = omega (arith, items, short) }))
+
+  each : {b : ℕ} {st : State} {us : List Record} {e : Ending} → Units t names s b st us e → (u : Record) → List·Memᴰ u us → Whole u
+  each (message.none x) u h = absurd (List·Memᴰ·not-nil h)
+  each (stopped x y) u h = absurd (List·Memᴰ·not-nil h)
+  each (next x y r) u h = ⊎-elim (λ q. rw q (one y)) (λ k. each r u k) (List·Memᴰ·cases-cons h)
+
+pub whole-records : (t names : List ℕ) (b : ℕ) (s : List ℕ) (us : List Record) (e : Ending) → Accepted t names → Message t names b s us e
+    → (u : Record) → List·Memᴰ u us → (branch t (u .branch) ≡ true) × (recordIn (wordOf u) ≡ u)
+whole-records t names b s us e ok (no-branch m) u h = absurd (List·Memᴰ·not-nil h)
+whole-records t names b s us e ok (too-long m l) u h = absurd (List·Memᴰ·not-nil h)
+whole-records t names b s us e ok (text m l x) u h = each t names s ok l x u h
+
+few : {t names s : List ℕ} {b : ℕ} {st : State} {us : List Record} {e : Ending} → Units t names s b st us e → length us ≤ length s - st .place
+few (message.none x) = omega arith
+few (stopped x y) = omega arith
+few {s = s} {st = st} (next x y r) =
+    let p = inside s st x in
+    let q = units.claims .onward _ _ _ _ _ _ _ y in
+    let l = few r in
+    omega (arith, p, q, l)
+
+pub few-units : (t names : List ℕ) (b : ℕ) (s : List ℕ) (us : List Record) (e : Ending) → Message t names b s us e → length us ≤ length s
+few-units t names b s us e (no-branch m) = omega arith
+few-units t names b s us e (too-long m l) = omega arith
+few-units t names b s us e (text m l x) = let h = few x in omega (arith, h)

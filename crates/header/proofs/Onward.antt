@@ -1,22 +1,28 @@
--- A header that is found does not go back in the text, keeps a branch of the table, and has a command of 16 bits.
+-- A header that is found does not go back in the text, keeps a branch of the table, has a command of 16 bits, and, where the end of the
+-- text ended it, has that end behind it.
 use Prim.Native.Nat.{ℕ, _≤_, _<_, _/_, _%_, _^_}
-use mathlib.Core.Path.{_≡_, refl, sym, ap, _∙_}
+use mathlib.Core.Path.{_≡_, refl, sym, ap, subst}
 use mathlib.Core.Logic.{⊎-elim}
 use mathlib.Core.List.{List}
-use mathlib.Core.Bool.{Bool, true, false}
+use mathlib.Core.Bool.{true}
 use native.Mathlib.Omega.{arith}
 use lib.ListN.{length, getD}
 use Rattle.kind.proofs.Tests.{less-or-not}
 use Rattle.node.specs.Word.{commandNumber}
 use Rattle.node.specs.Tree.{branch}
 use Rattle.token.specs.declared.View.{View}
+use Rattle.token.specs.declared.Token.{Token}
+use Rattle.token.specs.declared.Token.the-variants.{HeaderMnemonicSeparator, HeaderQuerySuffix, ProgramMessageUnitSeparator, ProgramHeaderSeparator, ProgramDataSeparator, ProgramMnemonic, CharacterProgramData, DecimalNumericProgramData, DecimalNumericSuffixProgramData, NonDecimalNumericProgramData, StringProgramData, ArbitraryBlockData, ExpressionProgramData}
 use Rattle.tokenizer.specs.Step.{step}
+use Rattle.tokenizer.specs.declared.Answer.{Answer}
+use Rattle.tokenizer.specs.declared.Answer.the-variants as answer
 use Rattle.tokenizer.specs.declared.State.{State}
 use Rattle.tokenizer.specs.declared.Step.{Step}
 use Rattle.tokenizer.proofs.Claims.{claims}
-use Rattle.header.specs.Seen.{seenWith, seenAt}
+use Rattle.header.specs.Seen.{tokenAhead, aheadOf, seenAt}
 use Rattle.header.specs.Header.{behindQuery, queryAnswer, atLeaf, leafAnswer, wordBehind, behindColon, atBranch, turnOf, Reads, leaf, refused, said, unsaid, unknown, ended, nowhere, keeping, Begins, no-branch, first-refused, no-header, no-question, from-root, common, from-branch}
 use Rattle.header.specs.declared.Stop.{Stop}
+use Rattle.header.specs.declared.Stop.the-variants as stop
 use Rattle.header.specs.declared.Ahead.{Ahead}
 use Rattle.header.specs.declared.Ahead.the-variants as ahead
 use Rattle.header.specs.declared.Seen.{Seen}
@@ -29,10 +35,24 @@ use Rattle.header.specs.declared.Header.the-variants as header
 abbrev Keeps : List ℕ → ℕ → Type 0
 Keeps t kept = branch t 0 ≡ true → branch t kept ≡ true
 
+-- where the end of the text ended the header, it stands behind it still
+abbrev Over : List ℕ → Stop → State → Type 0
+Over s stop.Text st = (step s st) .answer ≡ answer.End
+Over s stop.Unit st = Unit {0}
+Over s stop.Separator st = Unit {0}
+
 -- what is so of a header that is found, where the text was read up to the place p
-abbrev pub Sound : List ℕ → ℕ → Header → Type 0
-Sound t p (header.Found c query kept x st) = (p ≤ st .place) × Keeps t kept × (c < 65536)
-Sound t p (header.Refused e) = Unit {0}
+abbrev pub Sound : List ℕ → List ℕ → ℕ → Header → Type 0
+Sound t s p (header.Found c query kept x st) = (p ≤ st .place) × Keeps t kept × (c < 65536) × Over s x st
+Sound t s p (header.Refused e) = Unit {0}
+
+-- what is seen was seen in the text
+abbrev Genuine : List ℕ → State → Ahead → Type 0
+Genuine s st (ahead.Stop x) = Over s x st
+Genuine s st (ahead.Word w) = Unit {0}
+Genuine s st ahead.Colon = Unit {0}
+Genuine s st ahead.Query = Unit {0}
+Genuine s st (ahead.Refused e) = Unit {0}
 
 -- a word that stands at a branch is not before the place p
 abbrev Further : ℕ → Turn → Type 0
@@ -49,32 +69,57 @@ look-onward s st =
     (λ h. let l = ap (λ (x : Step). x .state .place) (claims .rests s st h) in omega (arith, l))
     (less-or-not (st .place) (length s))
 
-sooner : (t : List ℕ) (p q : ℕ) (r : Header) → p ≤ q → Sound t q r → Sound t p r
-sooner t p q (header.Found c query kept x st) l h = (let k = h .0 in omega (arith, l, k), h .1, h .2)
-sooner t p q (header.Refused e) l h = tt
+-- what is seen from a state on is genuine
+genuine-token : (s : List ℕ) (st : State) (t : Token) → Genuine s st (tokenAhead t)
+genuine-token s st (ProgramMnemonic w) = tt
+genuine-token s st HeaderMnemonicSeparator = tt
+genuine-token s st HeaderQuerySuffix = tt
+genuine-token s st ProgramHeaderSeparator = tt
+genuine-token s st ProgramMessageUnitSeparator = tt
+genuine-token s st ProgramDataSeparator = tt
+genuine-token s st (CharacterProgramData v) = tt
+genuine-token s st (DecimalNumericProgramData v) = tt
+genuine-token s st (DecimalNumericSuffixProgramData v u) = tt
+genuine-token s st (NonDecimalNumericProgramData n) = tt
+genuine-token s st (StringProgramData v) = tt
+genuine-token s st (ArbitraryBlockData v) = tt
+genuine-token s st (ExpressionProgramData v) = tt
+
+genuine-at : (s : List ℕ) (st : State) → Genuine s ((seenAt s st) .state) ((seenAt s st) .ahead)
+unfolding seenAt
+genuine-at s st = go ((step s st) .answer) refl
+  where
+    go : (a : Answer) → (step s st) .answer ≡ a → Genuine s ((step s st) .state) (aheadOf a)
+    go (answer.Token t) e = genuine-token s _ t
+    go answer.End e = ap (λ (x : Step). x .answer) (claims .end-stays s st e)
+    go (answer.Refused c) e = tt
+
+sooner : (t s : List ℕ) (p q : ℕ) (r : Header) → p ≤ q → Sound t s q r → Sound t s p r
+sooner t s p q (header.Found c query kept x st) l h = (let k = h .0 in omega (arith, l, k), h .1, h .2, h .3)
+sooner t s p q (header.Refused e) l h = tt
 
 module _ (t s : List ℕ) (c h : ℕ) (b : Keeps t h) (f : c < 65536) where
-  query-sound : (p : ℕ) (seen : Seen) → p ≤ seen .state .place → Sound t p (queryAnswer c h seen)
+  query-sound : (p : ℕ) (seen : Seen) → p ≤ seen .state .place → Genuine s (seen .state) (seen .ahead) → Sound t s p (queryAnswer c h seen)
   unfolding queryAnswer
-  query-sound p seen l = go (seen .ahead)
+  query-sound p seen l g = go (seen .ahead) g
     where
-      go : (x : Ahead) → Sound t p (behindQuery c h (seen .state) x)
-      go (ahead.Stop x) = (l, b, f)
-      go (ahead.Refused e) = tt
-      go ahead.Query = tt
-      go (ahead.Word w) = tt
-      go ahead.Colon = tt
+      go : (x : Ahead) → Genuine s (seen .state) x → Sound t s p (behindQuery c h (seen .state) x)
+      go (ahead.Stop x) o = (l, b, f, o)
+      go (ahead.Refused e) o = tt
+      go ahead.Query o = tt
+      go (ahead.Word w) o = tt
+      go ahead.Colon o = tt
 
-  leaf-sound : (seen : Seen) → Sound t (seen .state .place) (leafAnswer s c h seen)
+  leaf-sound : (seen : Seen) → Genuine s (seen .state) (seen .ahead) → Sound t s (seen .state .place) (leafAnswer s c h seen)
   unfolding leafAnswer
-  leaf-sound seen = go (seen .ahead)
+  leaf-sound seen g = go (seen .ahead) g
     where
-      go : (x : Ahead) → Sound t (seen .state .place) (atLeaf s c h (seen .state) x)
-      go (ahead.Stop x) = (omega arith, b, f)
-      go ahead.Query = query-sound (seen .state .place) (seenAt s (seen .state)) (look-onward s (seen .state))
-      go (ahead.Refused e) = tt
-      go (ahead.Word w) = tt
-      go ahead.Colon = tt
+      go : (x : Ahead) → Genuine s (seen .state) x → Sound t s (seen .state .place) (atLeaf s c h (seen .state) x)
+      go (ahead.Stop x) o = (omega arith, b, f, o)
+      go ahead.Query o = query-sound (seen .state .place) (seenAt s (seen .state)) (look-onward s (seen .state)) (genuine-at s (seen .state))
+      go (ahead.Refused e) o = tt
+      go (ahead.Word w) o = tt
+      go ahead.Colon o = tt
 
 colon-onward : (p : ℕ) (seen : Seen) → p ≤ seen .state .place → Further p (behindColon seen)
 unfolding behindColon
@@ -106,25 +151,30 @@ unfolding commandNumber
 command-fits w = omega arith
 
 module _ {t names s : List ℕ} where
-  pub reads-sound : {h n : ℕ} {seen : Seen} {r : Header} → Keeps t h → Reads t names s h n seen r → Sound t (seen .state .place) r
-  reads-sound {h} {n} {seen} b (leaf m) = leaf-sound t s (commandNumber (getD t n 0)) h b (command-fits (getD t n 0)) seen
-  reads-sound b (refused m e) = tt
-  reads-sound {h} {n} {seen} {r} b (said {st = st} m e k x) =
-      sooner t _ _ r (omega (arith, word-onward s seen e, look-onward s st)) (reads-sound (λ _. m) x)
-  reads-sound {h} {n} {seen} {r} b (unsaid m e k d x) = sooner t _ _ r (word-onward s seen e) (reads-sound b x)
-  reads-sound b (unknown m e k d) = tt
-  reads-sound b (ended m e d x) = reads-sound b x
-  reads-sound b (nowhere m e d) = tt
+  pub reads-sound : {h n : ℕ} {seen : Seen} {r : Header} → Keeps t h → Genuine s (seen .state) (seen .ahead) → Reads t names s h n seen r → Sound t s (seen .state .place) r
+  reads-sound {h} {n} {seen} b g (leaf m) = leaf-sound t s (commandNumber (getD t n 0)) h b (command-fits (getD t n 0)) seen g
+  reads-sound b g (refused m e) = tt
+  reads-sound {h} {n} {seen} {r} b g (said {st = st} m e k x) =
+      sooner t s _ _ r (omega (arith, word-onward s seen e, look-onward s st)) (reads-sound (λ _. m) (genuine-at s st) x)
+  reads-sound {h} {n} {seen} {r} b g (unsaid m e k d x) = sooner t s _ _ r (word-onward s seen e) (reads-sound b tt x)
+  reads-sound b g (unknown m e k d) = tt
+  reads-sound b g (ended m e d x) = reads-sound b g x
+  reads-sound b g (nowhere m e d) = tt
 
-keeping-sound : (t : List ℕ) (p b : ℕ) (r : Header) → branch t b ≡ true → Sound t p r → Sound t p (keeping b r)
-keeping-sound t p b (header.Found c query kept x st) m h = (h .0, (λ _. m), h .2)
-keeping-sound t p b (header.Refused e) m h = tt
+keeping-sound : (t s : List ℕ) (p b : ℕ) (r : Header) → branch t b ≡ true → Sound t s p r → Sound t s p (keeping b r)
+keeping-sound t s p b (header.Found c query kept x st) m h = (h .0, (λ _. m), h .2, h .3)
+keeping-sound t s p b (header.Refused e) m h = tt
 
-pub begins-sound : {t names s : List ℕ} {b : ℕ} {seen : Seen} {r : Header} → Begins t names s b seen r → Sound t (seen .state .place) r
+-- a word is no end of the text
+word-genuine : (s : List ℕ) (seen : Seen) {w : View} → seen .ahead ≡ ahead.Word w → Genuine s (seen .state) (seen .ahead)
+word-genuine s seen e = subst (Genuine s (seen .state)) (sym e) tt
+
+pub begins-sound : {t names s : List ℕ} {b : ℕ} {seen : Seen} {r : Header} → Begins t names s b seen r → Sound t s (seen .state .place) r
 begins-sound (no-branch m) = tt
 begins-sound (first-refused m e) = tt
 begins-sound (no-header m e) = tt
 begins-sound (no-question m e) = tt
-begins-sound {t} {names} {s} {b} {seen} {r} (from-root m e x) = sooner t _ _ r (look-onward s (seen .state)) (reads-sound (λ z. z) x)
-begins-sound {t} {names} {s} {b} {seen} (common {r = r} m e f x) = keeping-sound t _ b r m (reads-sound (λ z. z) x)
-begins-sound (from-branch m e f x) = reads-sound (λ _. m) x
+begins-sound {t} {names} {s} {b} {seen} {r} (from-root m e x) =
+    sooner t s _ _ r (look-onward s (seen .state)) (reads-sound (λ z. z) (genuine-at s (seen .state)) x)
+begins-sound {t} {names} {s} {b} {seen} (common {r = r} m e f x) = keeping-sound t s _ b r m (reads-sound (λ z. z) (word-genuine s seen e) x)
+begins-sound {s = s} {seen = seen} (from-branch m e f x) = reads-sound (λ _. m) (word-genuine s seen e) x

@@ -4,10 +4,13 @@ use mathlib.Core.Path.{_≡_}
 use mathlib.Core.List.{List}
 use mathlib.Core.Bool.{Bool, true}
 use Rattle.node.specs.Tree.{branch}
+use Rattle.tokenizer.specs.Step.{step}
+use Rattle.tokenizer.specs.declared.Answer.the-variants.{End}
 use Rattle.tokenizer.specs.declared.State.{State}
 use Rattle.header.specs.Header.{Begins}
 use Rattle.header.specs.declared.Seen.{Seen}
 use Rattle.header.specs.declared.Stop.{Stop}
+use Rattle.header.specs.declared.Stop.the-variants as stop
 use Rattle.header.specs.declared.Header.{Header}
 use Rattle.header.specs.declared.Header.the-variants as header
 
@@ -18,6 +21,9 @@ pub record Claims : Type 0 where
   -- a header that is found does not go back in the text
   pub onward : (t names s : List ℕ) (b c : ℕ) (query : Bool) (kept : ℕ) (x : Stop) (seen : Seen) (st : State) → Begins t names s b seen (header.Found c query kept x st)
       → seen .state .place ≤ st .place
+  -- a header that the end of the text ended has that end behind it
+  pub over : (t names s : List ℕ) (b c : ℕ) (query : Bool) (kept : ℕ) (seen : Seen) (st : State) → Begins t names s b seen (header.Found c query kept stop.Text st)
+      → (step s st) .answer ≡ End
   -- its command has 16 bits
   pub command-fits : (t names s : List ℕ) (b c : ℕ) (query : Bool) (kept : ℕ) (x : Stop) (seen : Seen) (st : State) → Begins t names s b seen (header.Found c query kept x st)
       → c < 65536

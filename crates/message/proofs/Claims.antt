@@ -1,8 +1,9 @@
 -- The claims.
-use mathlib.Core.Path.{ap}
+use mathlib.Core.Path.{refl, ap}
 use Rattle.message.specs.Claims.{Claims}
 use Rattle.message.proofs.Some.{some-message}
 use Rattle.message.proofs.Fields.{few-units, whole-records}
+use Rattle.message.proofs.Alone.{single, unknown}
 use Rattle.message.proofs.Once.{Parts, one-parts, one-walk, one-unchecked, unchecked}
 
 pub claims : Claims
@@ -17,4 +18,6 @@ claims =
       unchecked = λ t names b s. unchecked;
       few-units = few-units;
       whole-records = whole-records;
+      single = λ t names b s c query kept h. single _ h refl;
+      unknown = λ t names b s h. unknown _ h refl;
     }

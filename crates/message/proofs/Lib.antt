@@ -4,4 +4,5 @@ pub mod Walks
 pub mod Entries
 pub mod Once
 pub mod Fields
+pub mod Alone
 pub mod Claims

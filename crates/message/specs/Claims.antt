@@ -1,14 +1,18 @@
 -- What is proved of messages, besides the promises of the functions. The proofs are in proofs/Claims.
 use Prim.Native.Nat.{ℕ, _≤_}
 use mathlib.Core.Path.{_≡_}
-use mathlib.Core.List.{List, List·Memᴰ}
-use mathlib.Core.Bool.{true}
+use mathlib.Core.List.{List, [], _∷_, List·Memᴰ}
+use mathlib.Core.Bool.{Bool, true}
 use lib.ListN.{length}
+use Rattle.error.specs.declared.ErrorCode.the-variants.{UndefinedHeader}
 use Rattle.node.specs.Tree.{branch}
 use Rattle.record.specs.Word.{wordOf, recordIn}
 use Rattle.table.specs.Fault.{Accepted}
+use Rattle.tree.specs.Alone.{Resolves}
+use Rattle.tree.specs.declared.Resolved.the-variants.{Command, Refused}
+use Rattle.unit.specs.Unit.{recordOf}
 use Rattle.record.specs.declared.Record.{Record}
-use Rattle.message.specs.Message.{Ending, Message, CheckedMessage, Walks}
+use Rattle.message.specs.Message.{Ending, complete, refused, Message, CheckedMessage, Walks}
 use Rattle.message.specs.declared.Walked.{Walked}
 
 pub record Claims : Type 0 where
@@ -30,3 +34,8 @@ pub record Claims : Type 0 where
   -- in an accepted table each unit keeps a branch of it, and its record is found again in its word
   pub whole-records : (t names : List ℕ) (b : ℕ) (s : List ℕ) (us : List Record) (e : Ending) → Accepted t names → Message t names b s us e
       → (u : Record) → List·Memᴰ u us → (branch t (u .branch) ≡ true) × (recordIn (wordOf u) ≡ u)
+  -- a header that resolution alone gives a command is, as a message, one unit of that command without items
+  pub single : (t names : List ℕ) (b : ℕ) (s : List ℕ) (c : ℕ) (query : Bool) (kept : ℕ) → Resolves t names b s (Command c query kept)
+      → Message t names b s (recordOf c query kept 0 ∷ []) complete
+  -- and one that is undefined is refused so, as a message
+  pub unknown : (t names : List ℕ) (b : ℕ) (s : List ℕ) → Resolves t names b s (Refused UndefinedHeader) → Message t names b s [] (refused UndefinedHeader)

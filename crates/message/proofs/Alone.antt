@@ -1,0 +1,97 @@
+-- A header alone, and the message that it is.
+use Prim.Native.Nat.{ℕ}
+use mathlib.Core.Path.{_≡_, refl, sym, ap, subst, _∙_}
+use mathlib.Core.List.{List, [], _∷_}
+use mathlib.Core.Bool.{Bool, true, false, false≢true}
+use native.Mathlib.Omega.{arith}
+use lib.Signed.{mag}
+use Rattle.error.specs.Code.{codeOf}
+use Rattle.error.specs.declared.ErrorCode.{ErrorCode}
+use Rattle.error.specs.declared.ErrorCode.the-variants as refusal
+use Rattle.kind.proofs.Tests.{clash}
+use Rattle.node.specs.Tree.{branch}
+use Rattle.record.specs.declared.Record.{Record}
+use Rattle.tokenizer.specs.Step.{step, ofMessage}
+use Rattle.tokenizer.specs.declared.Answer.the-variants.{End}
+use Rattle.tokenizer.specs.declared.State.{State}
+use Rattle.header.specs.Seen.{aheadOf, seenAt}
+use Rattle.header.specs.Header.{Begins}
+use Rattle.header.specs.Header as begins
+use Rattle.header.specs.declared.Stop.{Stop}
+use Rattle.header.specs.declared.Stop.the-variants as stop
+use Rattle.header.specs.declared.Seen.{Seen}
+use Rattle.header.specs.declared.Header.{Header}
+use Rattle.header.specs.declared.Header.the-variants as header
+use Rattle.header.proofs.Claims as headers
+use Rattle.tree.specs.Alone.{closing, Resolves, ResolvesAlone, one-header}
+use Rattle.tree.specs.Alone as alone
+use Rattle.tree.specs.declared.Resolved.{Resolved}
+use Rattle.tree.specs.declared.Resolved.the-variants as resolved
+use Rattle.unit.specs.Unit.{at-end, recordOf, no-command, whole}
+use Rattle.message.specs.Message.{isEnd, Ending, complete, refused, none, stopped, next, Message, text, CheckedMessage, fault, sound}
+
+-- a header that is not refused as one that is missing
+abbrev Present : Header → Type 0
+Present (header.Found c query kept x st) = Unit {0}
+Present (header.Refused e) = e ≡ refusal.SyntaxError → ⊥
+
+-- such a header does not begin at the end of the text
+begun : {t names s : List ℕ} {b : ℕ} {seen : Seen} {h : Header} → branch t b ≡ true → Begins t names s b seen h → Present h → isEnd (seen .ahead) ≡ false
+begun m (begins.no-branch l) p = clash m l
+begun m (begins.first-refused _ e) p = ap isEnd e
+begun m (begins.no-header _ e) p = absurd (p refl)
+begun m (begins.no-question _ e) p = ap isEnd e
+begun m (begins.from-root _ e r) p = ap isEnd e
+begun m (begins.common _ e f r) p = ap isEnd e
+begun m (begins.from-branch _ e f r) p = ap isEnd e
+
+at-end-still : (s : List ℕ) (st : State) → (step s st) .answer ≡ End → isEnd ((seenAt s st) .ahead) ≡ true
+unfolding seenAt
+at-end-still s st e = ap (λ a. isEnd (aheadOf a)) e
+
+abbrev isCommand : Resolved → Bool
+isCommand (resolved.Command c query kept) = true
+isCommand (resolved.Refused e) = false
+
+-- the record of a command
+abbrev recordOfAnswer : Resolved → Record
+recordOfAnswer (resolved.Command c query kept) = recordOf c query kept 0
+recordOfAnswer (resolved.Refused e) = recordOf 0 false 0 0
+
+abbrev codeIn : Resolved → ErrorCode
+codeIn (resolved.Command c query kept) = refusal.SyntaxError
+codeIn (resolved.Refused e) = e
+
+no-command-here : {A : Type 0} {e : ErrorCode} {c kept : ℕ} {query : Bool} → resolved.Refused e ≡ resolved.Command c query kept → A
+no-command-here q = absurd (false≢true (ap isCommand q))
+
+undefined-no-syntax : refusal.UndefinedHeader ≡ refusal.SyntaxError → ⊥
+undefined-no-syntax q = let z = ap (λ e. mag (codeOf e)) q in omega (arith, z)
+
+module _ {t names : List ℕ} {b : ℕ} {s : List ℕ} where
+  pub single : {c kept : ℕ} {query : Bool} (r : Resolved) → Resolves t names b s r → r ≡ resolved.Command c query kept → Message t names b s (recordOf c query kept 0 ∷ []) complete
+  single r (alone.no-branch l) q = no-command-here q
+  single r (alone.too-long m l) q = no-command-here q
+  single {c} {kept} {query} r (one-header {r = h} m l g) q = go h g q
+    where
+      go : (h : Header) → Begins t names s b (seenAt s ofMessage) h → closing h ≡ resolved.Command c query kept → Message t names b s (recordOf c query kept 0 ∷ []) complete
+      go (header.Refused e) y o = no-command-here o
+      go (header.Found c′ query′ kept′ stop.Separator st) y o = no-command-here o
+      go (header.Found c′ query′ kept′ stop.Unit st) y o = no-command-here o
+      go (header.Found c′ query′ kept′ stop.Text st) y o =
+          subst (λ (u : Record). Message t names b s (u ∷ []) complete) (ap recordOfAnswer o)
+          (text m l (next (begun m y tt) (whole y at-end) (none (at-end-still s st (headers.claims .over _ _ _ _ _ _ _ _ _ y)))))
+
+  pub unknown : (r : Resolved) → Resolves t names b s r → r ≡ resolved.Refused refusal.UndefinedHeader → Message t names b s [] (refused refusal.UndefinedHeader)
+  unknown r (alone.no-branch l) q = let z = ap (λ (x : Resolved). mag (codeOf (codeIn x))) q in absurd (omega (arith, z))
+  unknown r (alone.too-long m l) q = let z = ap (λ (x : Resolved). mag (codeOf (codeIn x))) q in absurd (omega (arith, z))
+  unknown r (one-header {r = h} m l g) q = go h g q
+    where
+      go : (h : Header) → Begins t names s b (seenAt s ofMessage) h → closing h ≡ resolved.Refused refusal.UndefinedHeader
+          → Message t names b s [] (refused refusal.UndefinedHeader)
+      go (header.Refused e) y o =
+          let same = ap codeIn o in
+          subst (λ (x : ErrorCode). Message t names b s [] (refused x)) same (text m l (stopped (begun m y (λ p. undefined-no-syntax (sym same ∙ p))) (no-command y)))
+      go (header.Found c′ query′ kept′ stop.Separator st) y o = absurd (undefined-no-syntax (sym (ap codeIn o)))
+      go (header.Found c′ query′ kept′ stop.Unit st) y o = absurd (undefined-no-syntax (sym (ap codeIn o)))
+      go (header.Found c′ query′ kept′ stop.Text st) y o = absurd (false≢true (ap isCommand (sym o)))

@@ -1,0 +1,78 @@
+// A reader of a message, which holds the message and the state of its step. `Tokenizer<'a>` of tokenizer/mod.rs of the original.
+ghost use mathlib.Core.Path.{_≡_};
+ghost use Rattle.token.specs.View.{partOf};
+ghost use Rattle.tokenizer.specs.Step.{stateOf, ofMessage, ofData, step};
+ghost use Rattle.reader.specs.Ahead.{readerOf, ahead};
+use token::View;
+use tokenizer::State;
+use tokenizer::Step;
+
+pub struct Reader<'a> {
+    pub message: &'a [u8],
+    pub state: State,
+}
+
+// A reader at the front of a message.
+pub fn new<'a>(message: &'a [u8]) -> Reader<'a>
+    ensures { λ r. ⌜ r ≡ readerOf (message .entry) ofMessage ⌝ }
+{
+    Reader {
+        message,
+        state: tokenizer::new(),
+    }
+}
+
+// A reader at the front of data alone.
+pub fn new_params<'a>(message: &'a [u8]) -> Reader<'a>
+    ensures { λ r. ⌜ r ≡ readerOf (message .entry) ofData ⌝ }
+{
+    Reader {
+        message,
+        state: tokenizer::new_params(),
+    }
+}
+
+// The next token, and the state behind it.
+pub fn step<'a>(r: Reader<'a>) -> Step
+    ensures { λ t. ⌜ t ≡ ahead (r .entry) ⌝ }
+{
+    tokenizer::next(r.message, r.state)
+}
+
+// The reader at another state.
+pub fn moved<'a>(r: Reader<'a>, state: State) -> Reader<'a>
+    ensures { λ q. ⌜ q ≡ readerOf (r .entry .message) state ⌝ }
+{
+    Reader {
+        message: r.message,
+        state,
+    }
+}
+
+// The part of the message that a view is; an empty one where its places do not fit the message.
+pub fn part<'a>(r: Reader<'a>, view: View) -> &'a [u8]
+    ensures { λ s. ⌜ now s ≡ partOf (now (r .entry .message)) view ⌝ }
+{
+    token::part(r.message, view)
+}
+
+// The place at which the next token begins.
+pub fn place<'a>(r: Reader<'a>) -> usize
+    ensures { λ n. ⌜ n ≡ r .entry .state .place ⌝ }
+{
+    r.state.place
+}
+
+// The step of a message at a place, for a caller who holds no reader.
+pub fn step_at(message: &[u8], place: usize, in_header: bool, in_common: bool) -> Step
+    ensures { λ t. ⌜ t ≡ step (now (message .entry)) (stateOf place in_header in_common) ⌝ }
+{
+    tokenizer::next(
+        message,
+        State {
+            place,
+            in_header,
+            in_common,
+        },
+    )
+}

@@ -2,8 +2,9 @@
 ghost use mathlib.Core.Path.{_≡_};
 ghost use Rattle.token.specs.View.{partOf};
 ghost use Rattle.tokenizer.specs.Step.{stateOf, ofMessage, ofData, step};
-ghost use Rattle.reader.specs.Ahead.{readerOf, ahead};
+ghost use Rattle.reader.specs.Ahead.{readerOf, ahead, behind};
 use token::View;
+use tokenizer::Answer;
 use tokenizer::State;
 use tokenizer::Step;
 
@@ -47,6 +48,15 @@ pub fn moved<'a>(r: Reader<'a>, state: State) -> Reader<'a>
         message: r.message,
         state,
     }
+}
+
+// The next token; the reader is moved on behind it.
+pub fn next<'s, 'a>(r: &'s mut Reader<'a>) -> Answer
+    ensures { λ t. ⌜ (t ≡ (ahead (now (r .entry))) .answer) × (now (r .exit) ≡ behind (now (r .entry))) ⌝ }
+{
+    let found = tokenizer::next(r.message, r.state);
+    r.state = found.state;
+    found.answer
 }
 
 // The part of the message that a view is; an empty one where its places do not fit the message.

@@ -33,23 +33,6 @@ pub fn new_params<'a>(message: &'a [u8]) -> Reader<'a>
     }
 }
 
-// The next token, and the state behind it.
-pub fn step<'a>(r: Reader<'a>) -> Step
-    ensures { λ t. ⌜ t ≡ ahead (r .entry) ⌝ }
-{
-    tokenizer::next(r.message, r.state)
-}
-
-// The reader at another state.
-pub fn moved<'a>(r: Reader<'a>, state: State) -> Reader<'a>
-    ensures { λ q. ⌜ q ≡ readerOf (r .entry .message) state ⌝ }
-{
-    Reader {
-        message: r.message,
-        state,
-    }
-}
-
 // The next token; the reader is moved on behind it.
 pub fn next<'s, 'a>(r: &'s mut Reader<'a>) -> Answer
     ensures { λ t. ⌜ (t ≡ (ahead (now (r .entry))) .answer) × (now (r .exit) ≡ behind (now (r .entry))) ⌝ }
@@ -64,13 +47,6 @@ pub fn part<'a>(r: Reader<'a>, view: View) -> &'a [u8]
     ensures { λ s. ⌜ now s ≡ partOf (now (r .entry .message)) view ⌝ }
 {
     token::part(r.message, view)
-}
-
-// The place at which the next token begins.
-pub fn place<'a>(r: Reader<'a>) -> usize
-    ensures { λ n. ⌜ n ≡ r .entry .state .place ⌝ }
-{
-    r.state.place
 }
 
 // The step of a message at a place, for a caller who holds no reader.

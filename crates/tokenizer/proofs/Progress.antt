@@ -3,18 +3,18 @@ use Prim.Native.Nat.{ℕ, _+_, _≤_, _<_}
 use mathlib.Core.Path.{_≡_}
 use mathlib.Core.Logic.{⊎-elim}
 use mathlib.Core.List.{List}
-use mathlib.Core.Bool.{Bool, true, false, not, _&&_, _||_}
+use mathlib.Core.Bool.{Bool, true, false, _||_}
 use native.Mathlib.Omega.{arith}
-use lib.Dec.{eqb, ltb}
+use lib.Dec.{eqb}
 use lib.ListN.{length, getD}
-use borrow.Author.Tests.{eqb-true, lt-leb, ltb-false}
+use borrow.Author.Tests.{eqb-true, lt-leb}
 use Rattle.error.specs.declared.ErrorCode.{ErrorCode}
-use Rattle.error.specs.declared.ErrorCode.the-variants.{InvalidCharacter, SyntaxError, InvalidSeparator, CommandHeaderError, HeaderSeparatorError}
+use Rattle.error.specs.declared.ErrorCode.the-variants.{InvalidCharacter, SyntaxError, CommandHeaderError}
 use Rattle.kind.specs.Class.{isWhiteSpace, inMnemonic}
 use Rattle.kind.specs.Kind.{kindOf, newline, blank, star, colon, question, semicolon, comma, hash, quote, parenthesis, other, beyond, underscore, small, capital}
 use Rattle.kind.proofs.Tests.{by-test, either}
 use Rattle.kind.proofs.OfKind.{blank-white, star-is, small-in, capital-in}
-use Rattle.util.specs.Run.{runEnd, standsAt}
+use Rattle.util.specs.Run.{runEnd}
 use Rattle.util.proofs.Runs.{run-from}
 use Rattle.token.specs.declared.Token.{Token}
 use Rattle.token.specs.declared.Token.the-variants.{HeaderMnemonicSeparator, HeaderQuerySuffix, ProgramMessageUnitSeparator, ProgramHeaderSeparator, ProgramDataSeparator}
@@ -29,7 +29,11 @@ use Rattle.enclosed.specs.Expression.{expressionData}
 use Rattle.enclosed.proofs.Progress.{expression-behind, string-behind}
 use Rattle.hash.specs.Block.{hashData}
 use Rattle.hash.proofs.Progress.{hash-behind}
-use Rattle.tokenizer.specs.Step.{inHeader, inCommon, taken, refusal, ended, readAs, newlineBefore, followsColon, colonBefore, followsQuery, questionBefore, commaTo, commaBefore, wordAt, outside, byKind, step}
+use Rattle.separator.specs.Separator.{newlineTo, colonTo, questionTo, commaTo}
+use Rattle.separator.specs.declared.Pass.{Pass}
+use Rattle.separator.specs.declared.Pass.the-variants as pass
+use Rattle.separator.proofs.Progress.{From, newline-ends, newline-from, colon-from, question-from, comma-from}
+use Rattle.tokenizer.specs.Step.{inHeader, inCommon, taken, refusal, ended, readAs, passed, endedBy, newlineBefore, colonBefore, questionBefore, commaBefore, wordAt, outside, byKind, step}
 use Rattle.tokenizer.specs.declared.State.{State}
 use Rattle.tokenizer.specs.declared.Step.{Step}
 
@@ -50,36 +54,34 @@ module _ (s : List ℕ) (st : State) (P : Step → Type 0)
   unfolding outside
   outside-reads r h = by-test P (inHeader st) (λ _. refuses CommandHeaderError) (λ _. reads (inCommon st) r h)
 
-  module _ (next : ℕ) (h : at < next) where
-    newline-moves : P (newlineBefore s st next)
-    unfolding newlineBefore
-    newline-moves = by-test P (ltb next (length s)) (λ _. refuses SyntaxError) (λ e. ends next h (ltb-false next (length s) e))
+  passes : (t : Token) (header : Bool) (p : Pass) → From (at + 1) p → P (passed s st t header p)
+  unfolding passed
+  passes t header (pass.To next) h = takes t next header (inCommon st) (omega (arith, h))
+  passes t header (pass.Refused e) h = refuses e
 
-    colon-moves : P (colonBefore s st next)
-    unfolding colonBefore
-    colon-moves =
-        by-test P (followsColon s next && (inHeader st && not (inCommon st)))
-        (λ _. takes HeaderMnemonicSeparator next (inHeader st) (inCommon st) h)
-        (λ _. refuses InvalidSeparator)
+  finishes : (p : Pass) → From (at + 1) p → From (length s) p → P (endedBy s st p)
+  unfolding endedBy
+  finishes (pass.To next) h l = ends next (omega (arith, h)) l
+  finishes (pass.Refused e) h l = refuses e
 
-    question-moves : P (questionBefore s st next)
-    unfolding questionBefore
-    question-moves =
-        by-test P (followsQuery s next && inHeader st) (λ _. takes HeaderQuerySuffix next false (inCommon st) h) (λ _. refuses SyntaxError)
+  newline-moves : P (newlineBefore s st (at + 1))
+  unfolding newlineBefore
+  newline-moves = finishes (newlineTo s (at + 1)) (newline-from s (at + 1)) (newline-ends s (at + 1))
 
-    white-moves : at < runEnd isWhiteSpace s next
-    white-moves = omega (arith, h, run-from isWhiteSpace s next)
+  colon-moves : P (colonBefore s st (at + 1))
+  unfolding colonBefore
+  colon-moves = passes HeaderMnemonicSeparator (inHeader st) (colonTo s (at + 1) (inHeader st) (inCommon st)) (colon-from s (at + 1) (inHeader st) (inCommon st))
 
-    comma-moves : P (commaBefore s st next)
-    unfolding commaBefore commaTo
-    comma-moves =
-        by-test P (inHeader st) (λ _. refuses HeaderSeparatorError)
-        (λ _. by-test P (standsAt 44 s to || standsAt 59 s to)
-        (λ _. refuses SyntaxError)
-        (λ _. takes ProgramDataSeparator to (inHeader st) (inCommon st) white-moves))
-      where
-        to : ℕ
-        to = runEnd isWhiteSpace s next
+  question-moves : P (questionBefore s st (at + 1))
+  unfolding questionBefore
+  question-moves = passes HeaderQuerySuffix false (questionTo s (at + 1) (inHeader st)) (question-from s (at + 1) (inHeader st))
+
+  comma-moves : P (commaBefore s st (at + 1))
+  unfolding commaBefore
+  comma-moves = passes ProgramDataSeparator (inHeader st) (commaTo s (at + 1) (inHeader st)) (comma-from s (at + 1) (inHeader st))
+
+  white-moves : at < runEnd isWhiteSpace s (at + 1)
+  white-moves = omega (arith, run-from isWhiteSpace s (at + 1))
 
   module _ (h : at < length s) where
     abbrev b : ℕ
@@ -95,12 +97,12 @@ module _ (s : List ℕ) (st : State) (P : Step → Type 0)
     by-kind : P (byKind s st at b (kindOf b))
     unfolding byKind
     by-kind =
-        by-test P (eqb k newline) (λ _. newline-moves (at + 1) next)
+        by-test P (eqb k newline) (λ _. newline-moves)
         (λ _. by-test P (eqb k star) (λ e. reads true (mnemonic s at) (common-behind s at h (eqb-true b 42 (star-is b (eqb-true k star e)))))
-        (λ _. by-test P (eqb k colon) (λ _. colon-moves (at + 1) next)
-        (λ _. by-test P (eqb k question) (λ _. question-moves (at + 1) next)
-        (λ _. by-test P (eqb k semicolon) (λ _. takes ProgramMessageUnitSeparator (runEnd isWhiteSpace s (at + 1)) true false (white-moves (at + 1) next))
-        (λ _. by-test P (eqb k comma) (λ _. comma-moves (at + 1) next)
+        (λ _. by-test P (eqb k colon) (λ _. colon-moves)
+        (λ _. by-test P (eqb k question) (λ _. question-moves)
+        (λ _. by-test P (eqb k semicolon) (λ _. takes ProgramMessageUnitSeparator (runEnd isWhiteSpace s (at + 1)) true false white-moves)
+        (λ _. by-test P (eqb k comma) (λ _. comma-moves)
         (λ _. by-test P (eqb k blank)
         (λ e. takes ProgramHeaderSeparator (runEnd isWhiteSpace s at) false (inCommon st) (run-moves isWhiteSpace s at h (blank-white b (eqb-true k blank e))))
         (λ _. by-test P (eqb k small || eqb k capital) (λ e. word-moves (in-word e))

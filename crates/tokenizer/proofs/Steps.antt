@@ -2,15 +2,15 @@
 use Prim.Native.Nat.{ℕ, _+_, _≤_, _<_}
 use mathlib.Core.Path.{_≡_, refl, sym, _∙_}
 use mathlib.Core.List.{List}
-use mathlib.Core.Bool.{Bool, true, false, not}
+use mathlib.Core.Bool.{Bool, true, false}
 use lib.ListN.{length, getD}
 use borrow.Author.Needs.{needs}
-use borrow.Author.Tests.{le-leb, lt-leb, lt-ltb, le-ltb, eq-eqb, ne-eqb, not-true, not-false}
+use borrow.Author.Tests.{le-leb, lt-leb, ne-eqb}
 use Rattle.error.specs.declared.ErrorCode.{ErrorCode}
-use Rattle.error.specs.declared.ErrorCode.the-variants.{InvalidCharacter, SyntaxError, InvalidSeparator, CommandHeaderError, HeaderSeparatorError}
-use Rattle.kind.specs.Class.{isWhiteSpace, isLetter}
+use Rattle.error.specs.declared.ErrorCode.the-variants.{InvalidCharacter, SyntaxError, CommandHeaderError}
+use Rattle.kind.specs.Class.{isWhiteSpace}
 use Rattle.kind.specs.Kind.{kindOf}
-use Rattle.util.specs.Run.{runEnd, standsAt}
+use Rattle.util.specs.Run.{runEnd}
 use Rattle.token.specs.declared.Token.{Token}
 use Rattle.token.specs.declared.Token.the-variants.{HeaderMnemonicSeparator, HeaderQuerySuffix, ProgramMessageUnitSeparator, ProgramHeaderSeparator, ProgramDataSeparator}
 use Rattle.item.specs.Word.{mnemonic, characterData}
@@ -18,9 +18,12 @@ use Rattle.decimal.specs.Decimal.{numericData}
 use Rattle.enclosed.specs.String.{stringData}
 use Rattle.enclosed.specs.Expression.{expressionData}
 use Rattle.hash.specs.Block.{hashData}
-use Rattle.tokenizer.specs.Step.{stateOf, inHeader, inCommon, ofMessage, ofData, taken, refusal, ended, readAs, newlineBefore, followsColon, colonBefore, followsQuery, questionBefore, commaTo, commaBefore, wordAt, outside, byKind, step}
+use Rattle.tokenizer.specs.Step.{stateOf, inHeader, inCommon, ofMessage, ofData, taken, refusal, ended, readAs, passed, endedBy, newlineBefore, colonBefore, questionBefore, commaBefore, wordAt, outside, byKind, step}
 use Rattle.item.specs.declared.Read.{Read}
 use Rattle.item.specs.declared.Read.the-variants as read
+use Rattle.separator.specs.Separator.{newlineTo, colonTo, questionTo, commaTo}
+use Rattle.separator.specs.declared.Pass.{Pass}
+use Rattle.separator.specs.declared.Pass.the-variants as pass
 use Rattle.tokenizer.specs.declared.State.{State}
 use Rattle.tokenizer.specs.declared.Answer.the-variants as answer
 use Rattle.tokenizer.specs.declared.Step.{Step}
@@ -43,91 +46,53 @@ module _ (s : List ℕ) (st : State) where
     unfolding readAs
     form-refused′ common e q x ex = ex ∙ rw q
 
-  pub newline-inside′ : (next : ℕ) → next < length s → (x : Step) → x ≡ refusal s st SyntaxError → x ≡ newlineBefore s st next
-  unfolding newlineBefore
-  newline-inside′ next h x ex = ex ∙ rw (lt-ltb next (length s) h)
+  module _ (p : Pass) (t : Token) (header : Bool) (x : Step) where
+    pub pass-to′ : (next : ℕ) → p ≡ pass.To next → x ≡ taken t next header (inCommon st) → x ≡ passed s st t header p
+    unfolding passed
+    pass-to′ next e ex = ex ∙ rw e
 
-  pub newline-last′ : (next : ℕ) → length s ≤ next → record { answer = answer.End; state = stateOf next (inHeader st) (inCommon st) } ≡ newlineBefore s st next
-  unfolding newlineBefore ended
-  newline-last′ next h = rw (le-ltb next (length s) h)
+    pub pass-refused′ : (e : ErrorCode) → p ≡ pass.Refused e → x ≡ refusal s st e → x ≡ passed s st t header p
+    unfolding passed
+    pass-refused′ e q ex = ex ∙ rw q
 
-pub ruleset parts = (needs, taken-is′, refusal-is′, form-token′, form-refused′, newline-inside′, newline-last′)
+pub ended-is′ : (st : State) → record { answer = answer.End; state = st } ≡ ended st (st .place)
+unfolding ended
+ended-is′ st = refl
 
-module _ (s : List ℕ) (at : ℕ) where
-  pub colon-past′ : length s ≤ at → true ≡ followsColon s at
-  unfolding followsColon
-  colon-past′ h = rw (le-leb (length s) at h)
+pub ruleset parts = (needs, taken-is′, refusal-is′, form-token′, form-refused′, pass-to′, pass-refused′, ended-is′)
 
-  pub colon-letter′ : at < length s → (r : Bool) → r ≡ isLetter (getD s at 0) → r ≡ followsColon s at
-  unfolding followsColon
-  colon-letter′ h r er = rw (lt-leb (length s) at h) er
+-- A separator, by what `separator` says of it.
+module _ (s : List ℕ) (st : State) (next : ℕ) (p : Pass) (x : Step) where
+  module _ (ep : p ≡ newlineTo s next) where
+    pub newline-to′ : (to : ℕ) → p ≡ pass.To to → x ≡ ended (stateOf to (inHeader st) (inCommon st)) to → x ≡ newlineBefore s st next
+    unfolding newlineBefore endedBy ended
+    newline-to′ to e ex = ex ∙ rw (← ep, e)
 
-  pub query-past′ : length s ≤ at → true ≡ followsQuery s at
-  unfolding followsQuery
-  query-past′ h = rw (le-leb (length s) at h)
+    pub newline-refused′ : (e : ErrorCode) → p ≡ pass.Refused e → x ≡ refusal s st e → x ≡ newlineBefore s st next
+    unfolding newlineBefore endedBy
+    newline-refused′ e q ex = ex ∙ rw (← ep, q)
 
-  module _ (h : at < length s) where
-    pub query-unit′ : getD s at 0 ≡ 59 → true ≡ followsQuery s at
-    unfolding followsQuery
-    query-unit′ e = rw (lt-leb (length s) at h, eq-eqb (getD s at 0) 59 e)
+  pub colon-is′ : p ≡ colonTo s next (inHeader st) (inCommon st) → x ≡ passed s st HeaderMnemonicSeparator (inHeader st) p → x ≡ colonBefore s st next
+  unfolding colonBefore
+  colon-is′ ep ex = ex ∙ rw ep
 
-    pub query-white′ : (getD s at 0 ≡ 59 → ⊥) → (r : Bool) → r ≡ isWhiteSpace (getD s at 0) → r ≡ followsQuery s at
-    unfolding followsQuery
-    query-white′ n r er = rw (lt-leb (length s) at h, ne-eqb (getD s at 0) 59 n) er
+  pub question-is′ : p ≡ questionTo s next (inHeader st) → x ≡ passed s st HeaderQuerySuffix false p → x ≡ questionBefore s st next
+  unfolding questionBefore
+  question-is′ ep ex = ex ∙ rw ep
 
-module _ (s : List ℕ) (st : State) (next : ℕ) (x : Step) where
-  module _ (f : Bool) (ef : f ≡ followsColon s next) where
-    pub colon-ill′ : not f ≡ true → x ≡ refusal s st InvalidSeparator → x ≡ colonBefore s st next
-    unfolding colonBefore
-    colon-ill′ q ex = ex ∙ rw (← ef, not-true f q)
+  pub comma-is′ : p ≡ commaTo s next (inHeader st) → x ≡ passed s st ProgramDataSeparator (inHeader st) p → x ≡ commaBefore s st next
+  unfolding commaBefore
+  comma-is′ ep ex = ex ∙ rw ep
 
-    module _ (q : not f ≡ false) where
-      pub colon-outside′ : not (inHeader st) ≡ true → x ≡ refusal s st InvalidSeparator → x ≡ colonBefore s st next
-      unfolding colonBefore
-      colon-outside′ h ex = ex ∙ rw (← ef, not-false f q, not-true (inHeader st) h)
+pub white-token′ : (s : List ℕ) (at : ℕ) (t : Token) (header common : Bool) (next : ℕ) → next ≡ runEnd isWhiteSpace s at → (x : Step) → x ≡ taken t next header common → x ≡ taken t (runEnd isWhiteSpace s at) header common
+white-token′ s at t header common next en x ex = ex ∙ rw en
 
-      module _ (h : not (inHeader st) ≡ false) where
-        pub colon-common′ : inCommon st ≡ true → x ≡ refusal s st InvalidSeparator → x ≡ colonBefore s st next
-        unfolding colonBefore
-        colon-common′ c ex = ex ∙ rw (← ef, not-false f q, not-false (inHeader st) h, c)
+pub ruleset separators = (needs, newline-to′, newline-refused′, colon-is′, question-is′, comma-is′, white-token′)
 
-        pub colon-well′ : inCommon st ≡ false → x ≡ taken HeaderMnemonicSeparator next (inHeader st) (inCommon st) → x ≡ colonBefore s st next
-        unfolding colonBefore
-        colon-well′ c ex = ex ∙ rw (← ef, not-false f q, not-false (inHeader st) h, c)
-
-  module _ (f : Bool) (ef : f ≡ followsQuery s next) where
-    pub query-ill′ : not f ≡ true → x ≡ refusal s st SyntaxError → x ≡ questionBefore s st next
-    unfolding questionBefore
-    query-ill′ q ex = ex ∙ rw (← ef, not-true f q)
-
-    module _ (q : not f ≡ false) where
-      pub query-outside′ : not (inHeader st) ≡ true → x ≡ refusal s st SyntaxError → x ≡ questionBefore s st next
-      unfolding questionBefore
-      query-outside′ h ex = ex ∙ rw (← ef, not-false f q, not-true (inHeader st) h)
-
-      pub query-well′ : not (inHeader st) ≡ false → x ≡ taken HeaderQuerySuffix next false (inCommon st) → x ≡ questionBefore s st next
-      unfolding questionBefore
-      query-well′ h ex = ex ∙ rw (← ef, not-false f q, not-false (inHeader st) h)
+pub form-of′ : (s : List ℕ) (st : State) (common : Bool) (q r : Read) → r ≡ q → (x : Step) → x ≡ readAs s st common r → x ≡ readAs s st common q
+form-of′ s st common q r er x ex = ex ∙ rw er
 
 module _ (s : List ℕ) (st : State) (at : ℕ) (x : Step) where
-  pub comma-header′ : inHeader st ≡ true → x ≡ refusal s st HeaderSeparatorError → x ≡ commaBefore s st at
-  unfolding commaBefore
-  comma-header′ h ex = ex ∙ rw h
-
-  module _ (h : inHeader st ≡ false) (next : ℕ) (en : next ≡ runEnd isWhiteSpace s at) (c : Bool) (ec : c ≡ standsAt 44 s next) where
-    pub comma-twice′ : c ≡ true → x ≡ refusal s st SyntaxError → x ≡ commaBefore s st at
-    unfolding commaBefore commaTo
-    comma-twice′ q ex = ex ∙ rw (h, ← en, ← ec, q)
-
-    module _ (q : c ≡ false) (u : Bool) (eu : u ≡ standsAt 59 s next) where
-      pub comma-unit′ : u ≡ true → x ≡ refusal s st SyntaxError → x ≡ commaBefore s st at
-      unfolding commaBefore commaTo
-      comma-unit′ k ex = ex ∙ rw (h, ← en, ← ec, q, ← eu, k)
-
-      pub comma-well′ : u ≡ false → x ≡ taken ProgramDataSeparator next (inHeader st) (inCommon st) → x ≡ commaBefore s st at
-      unfolding commaBefore commaTo
-      comma-well′ k ex = ex ∙ rw (h, ← en, ← ec, q, ← eu, k)
-
   pub word-header′ : inHeader st ≡ true → (r : Read) → r ≡ mnemonic s at → x ≡ readAs s st (inCommon st) r → x ≡ wordAt s st at
   unfolding wordAt
   word-header′ h r er ex = ex ∙ rw (h, er)
@@ -144,13 +109,17 @@ module _ (s : List ℕ) (st : State) (at : ℕ) (x : Step) where
   unfolding outside
   outside-data′ q h r er ex = ex ∙ rw (h, er)
 
-pub ruleset arms = (needs, colon-past′, colon-letter′, query-past′, query-unit′, query-white′, colon-ill′, colon-outside′, colon-common′, colon-well′, query-ill′, query-outside′, query-well′, comma-header′, comma-twice′, comma-unit′, comma-well′, word-header′, word-data′, outside-header′, outside-data′)
+pub ruleset arms = (needs, form-of′, word-header′, word-data′, outside-header′, outside-data′)
 
 -- The step, by the kind k of the first byte.
 module _ (s : List ℕ) (st : State) where
   pub end′ : length s ≤ st .place → record { answer = answer.End; state = st } ≡ step s st
   unfolding step ended
   end′ h = rw (le-leb (length s) (st .place) h)
+
+  pub past′ : length s ≤ st .place → (x : Step) → x ≡ ended st (st .place) → x ≡ step s st
+  unfolding step
+  past′ h x ex = ex ∙ rw (le-leb (length s) (st .place) h)
 
   module _ (h : st .place < length s) (k : ℕ) (ek : k ≡ kindOf (getD s (st .place) 0)) (x : Step) where
     by-kind : step s st ≡ byKind s st (st .place) (getD s (st .place) 0) k
@@ -161,13 +130,13 @@ module _ (s : List ℕ) (st : State) where
     unfolding byKind
     newline′ e ex = ex ∙ sym (by-kind ∙ rw e)
 
-    pub blank′ : k ≡ 1 → (next : ℕ) → next ≡ runEnd isWhiteSpace s (st .place) → x ≡ taken ProgramHeaderSeparator next false (inCommon st) → x ≡ step s st
+    pub blank′ : k ≡ 1 → x ≡ taken ProgramHeaderSeparator (runEnd isWhiteSpace s (st .place)) false (inCommon st) → x ≡ step s st
     unfolding byKind
-    blank′ e next en ex = ex ∙ sym (by-kind ∙ rw (e, en))
+    blank′ e ex = ex ∙ sym (by-kind ∙ rw e)
 
-    pub star′ : k ≡ 2 → (r : Read) → r ≡ mnemonic s (st .place) → x ≡ readAs s st true r → x ≡ step s st
+    pub star′ : k ≡ 2 → x ≡ readAs s st true (mnemonic s (st .place)) → x ≡ step s st
     unfolding byKind
-    star′ e r er ex = ex ∙ sym (by-kind ∙ rw (e, er))
+    star′ e ex = ex ∙ sym (by-kind ∙ rw e)
 
     pub colon′ : k ≡ 3 → x ≡ colonBefore s st (st .place + 1) → x ≡ step s st
     unfolding byKind
@@ -177,9 +146,9 @@ module _ (s : List ℕ) (st : State) where
     unfolding byKind
     question′ e ex = ex ∙ sym (by-kind ∙ rw e)
 
-    pub semicolon′ : k ≡ 5 → (next : ℕ) → next ≡ runEnd isWhiteSpace s (st .place + 1) → x ≡ taken ProgramMessageUnitSeparator next true false → x ≡ step s st
+    pub semicolon′ : k ≡ 5 → x ≡ taken ProgramMessageUnitSeparator (runEnd isWhiteSpace s (st .place + 1)) true false → x ≡ step s st
     unfolding byKind
-    semicolon′ e next en ex = ex ∙ sym (by-kind ∙ rw (e, en))
+    semicolon′ e ex = ex ∙ sym (by-kind ∙ rw e)
 
     pub comma′ : k ≡ 6 → x ≡ commaBefore s st (st .place + 1) → x ≡ step s st
     unfolding byKind
@@ -193,9 +162,9 @@ module _ (s : List ℕ) (st : State) where
     unfolding byKind
     capital′ e ex = ex ∙ sym (by-kind ∙ rw e)
 
-    pub parenthesis′ : k ≡ 11 → (r : Read) → r ≡ expressionData s (st .place + 1) → x ≡ readAs s st (inCommon st) r → x ≡ step s st
+    pub parenthesis′ : k ≡ 11 → x ≡ readAs s st (inCommon st) (expressionData s (st .place + 1)) → x ≡ step s st
     unfolding byKind
-    parenthesis′ e r er ex = ex ∙ sym (by-kind ∙ rw (e, er))
+    parenthesis′ e ex = ex ∙ sym (by-kind ∙ rw e)
 
     pub other′ : k ≡ 12 → x ≡ refusal s st SyntaxError → x ≡ step s st
     unfolding byKind
@@ -225,7 +194,7 @@ module _ (s : List ℕ) (st : State) where
         ∙ sym (by-kind
         ∙ rw (ne-eqb k 0 n0, ne-eqb k 2 n2, ne-eqb k 3 n3, ne-eqb k 4 n4, ne-eqb k 5 n5, ne-eqb k 6 n6, ne-eqb k 1 n1, ne-eqb k 16 n16, ne-eqb k 17 n17, ne-eqb k 11 n11, ne-eqb k 12 n12, ne-eqb k 14 n14, ne-eqb k 13 n13, ne-eqb k 9 n9, ne-eqb k 10 n10))
 
-pub ruleset steps = (needs, end′, newline′, blank′, star′, colon′, question′, semicolon′, comma′, small′, capital′, parenthesis′, other′, underscore′, beyond′, hash′, quote′, number′)
+pub ruleset steps = (needs, past′, newline′, blank′, star′, colon′, question′, semicolon′, comma′, small′, capital′, parenthesis′, other′, underscore′, beyond′, hash′, quote′, number′)
 
 -- data alone starts as a message does, but outside a header
 pub data-start′ : (st : State) → st ≡ ofMessage → stateOf (st .place) false (inCommon st) ≡ ofData

@@ -1,15 +1,14 @@
 -- The token step: what stands at a place of a program message, IEEE 488.2 7.3 to 7.7, and where the next step begins.
 use Prim.Native.Nat.{ℕ, _+_}
-use Prim.Native.Char.{code}
 use mathlib.Core.List.{List}
-use mathlib.Core.Bool.{Bool, true, false, cond, not, _&&_, _||_}
-use lib.Dec.{eqb, leb, ltb}
+use mathlib.Core.Bool.{Bool, true, false, cond, _||_}
+use lib.Dec.{eqb, leb}
 use lib.ListN.{length, getD}
 use Rattle.error.specs.declared.ErrorCode.{ErrorCode}
-use Rattle.error.specs.declared.ErrorCode.the-variants.{InvalidCharacter, SyntaxError, InvalidSeparator, CommandHeaderError, HeaderSeparatorError}
-use Rattle.kind.specs.Class.{is, isWhiteSpace, isLetter}
+use Rattle.error.specs.declared.ErrorCode.the-variants.{InvalidCharacter, SyntaxError, CommandHeaderError}
+use Rattle.kind.specs.Class.{isWhiteSpace}
 use Rattle.kind.specs.Kind.{kindOf, newline, blank, star, colon, question, semicolon, comma, hash, quote, parenthesis, other, beyond, underscore, small, capital}
-use Rattle.util.specs.Run.{runEnd, standsAt}
+use Rattle.util.specs.Run.{runEnd}
 use Rattle.token.specs.declared.Token.{Token}
 use Rattle.token.specs.declared.Token.the-variants.{HeaderMnemonicSeparator, HeaderQuerySuffix, ProgramMessageUnitSeparator, ProgramHeaderSeparator, ProgramDataSeparator}
 use Rattle.item.specs.Word.{mnemonic, characterData}
@@ -19,6 +18,9 @@ use Rattle.decimal.specs.Decimal.{numericData}
 use Rattle.enclosed.specs.String.{stringData}
 use Rattle.enclosed.specs.Expression.{expressionData}
 use Rattle.hash.specs.Block.{hashData}
+use Rattle.separator.specs.Separator.{newlineTo, colonTo, questionTo, commaTo}
+use Rattle.separator.specs.declared.Pass.{Pass}
+use Rattle.separator.specs.declared.Pass.the-variants as pass
 use Rattle.tokenizer.specs.declared.State.{State}
 use Rattle.tokenizer.specs.declared.Answer.the-variants as answer
 use Rattle.tokenizer.specs.declared.Step.{Step}
@@ -61,43 +63,33 @@ readAs s st common (read.Refused e) = refusal s st e
 abbrev pub form : List ℕ → State → Read → Step
 form s st r = readAs s st (inCommon st) r
 
--- In the next four the place `next` is the one behind the byte.
+-- a separator as a token, with in-header as it is from there on; a refusal keeps the old one
+unfoldable pub passed : List ℕ → State → Token → Bool → Pass → Step
+passed s st t header (pass.To next) = taken t next header (inCommon st)
+passed s st t header (pass.Refused e) = refusal s st e
 
--- IEEE 488.2 7.5: a newline ends the message where it is its last byte
+-- a newline as the end
+unfoldable pub endedBy : List ℕ → State → Pass → Step
+endedBy s st (pass.To next) = ended st next
+endedBy s st (pass.Refused e) = refusal s st e
+
+-- In the next four the place `next` is the one behind the byte, and `separator` says what may stand there.
+
+-- IEEE 488.2 7.5: a newline ends the message
 unfoldable pub newlineBefore : List ℕ → State → ℕ → Step
-newlineBefore s st next = cond (ltb next (length s)) (refusal s st SyntaxError) (ended st next)
+newlineBefore s st next = endedBy s st (newlineTo s next)
 
--- behind a colon stands a letter, or nothing at all
-unfoldable pub followsColon : List ℕ → ℕ → Bool
-followsColon s at = leb (length s) at || isLetter (getD s at 0)
-
--- IEEE 488.2 7.6.1: a colon stands in a header, but for that of a common command
+-- IEEE 488.2 7.6.1: a colon in a header
 unfoldable pub colonBefore : List ℕ → State → ℕ → Step
-colonBefore s st next =
-    cond (followsColon s next && (inHeader st && not (inCommon st)))
-    (taken HeaderMnemonicSeparator next (inHeader st) (inCommon st))
-    (refusal s st InvalidSeparator)
-
--- behind a question mark stands white space, `;`, or nothing at all
-unfoldable pub followsQuery : List ℕ → ℕ → Bool
-followsQuery s at = leb (length s) at || (is ";" (getD s at 0) || isWhiteSpace (getD s at 0))
+colonBefore s st next = passed s st HeaderMnemonicSeparator (inHeader st) (colonTo s next (inHeader st) (inCommon st))
 
 -- IEEE 488.2 7.6.2: a question mark ends a header
 unfoldable pub questionBefore : List ℕ → State → ℕ → Step
-questionBefore s st next =
-    cond (followsQuery s next && inHeader st)
-    (taken HeaderQuerySuffix next false (inCommon st))
-    (refusal s st SyntaxError)
+questionBefore s st next = passed s st HeaderQuerySuffix false (questionTo s next (inHeader st))
 
--- IEEE 488.2 7.4.2: a comma between items of data: white space behind it is passed, and then neither `,` nor `;` may stand
-unfoldable pub commaTo : List ℕ → State → ℕ → Step
-commaTo s st to =
-    cond (standsAt (code ",") s to || standsAt (code ";") s to)
-    (refusal s st SyntaxError)
-    (taken ProgramDataSeparator to (inHeader st) (inCommon st))
-
+-- IEEE 488.2 7.4.2: a comma between items of data
 unfoldable pub commaBefore : List ℕ → State → ℕ → Step
-commaBefore s st next = cond (inHeader st) (refusal s st HeaderSeparatorError) (commaTo s st (runEnd isWhiteSpace s next))
+commaBefore s st next = passed s st ProgramDataSeparator (inHeader st) (commaTo s next (inHeader st))
 
 -- a letter begins a mnemonic in a header, and character data elsewhere
 unfoldable pub wordAt : List ℕ → State → ℕ → Step

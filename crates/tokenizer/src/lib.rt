@@ -1,12 +1,18 @@
 // The token step. tokenizer/mod.rs of the original.
 ghost use mathlib.Core.Path.{_≡_};
 ghost use mathlib.Core.Bool.{true, false};
-ghost use Rattle.tokenizer.specs.Step.{stateOf, ofMessage, ofData, taken, refusal, readAs, newlineBefore, followsColon, colonBefore, followsQuery, questionBefore, commaBefore, wordAt, outside, step};
+ghost use Rattle.tokenizer.specs.Step.{stateOf, inCommon, ofMessage, ofData, taken, refusal, ended, readAs, passed, newlineBefore, colonBefore, questionBefore, commaBefore, wordAt, outside, step};
+ghost use Rattle.kind.specs.Class.{isWhiteSpace};
+ghost use Rattle.util.specs.Run.{runEnd};
+ghost use Rattle.token.specs.declared.Token.the-variants.{ProgramMessageUnitSeparator, ProgramHeaderSeparator};
+ghost use Rattle.item.specs.Word.{mnemonic};
 ghost use Rattle.decimal.specs.Decimal.{numericData};
 ghost use Rattle.enclosed.specs.String.{stringData};
+ghost use Rattle.enclosed.specs.Expression.{expressionData};
 ghost use Rattle.hash.specs.Block.{hashData};
 use error::ErrorCode;
 use item::Read;
+use separator::Pass;
 use token::Token;
 
 // Where a step begins: its place, and whether that is in a header and in a common command.
@@ -54,41 +60,27 @@ pub fn next(s: &[u8], state: State) -> Step
 {
     let at = state.place;
     if s.len() <= at {
-        return Step {
-            answer: Answer::End,
-            state,
-        };
+        return ended(state);
     }
     let b = s[at];
     let k = kind::kind(b);
     match k {
-        kind::NEWLINE => newline(s, at + 1, state),
-        kind::BLANK => {
-            let next = util::skip_ws(s, at);
-            taken(Token::ProgramHeaderSeparator, next, false, state.in_common)
-        }
-        kind::STAR => form(s, state, item::read_mnemonic(s, at), true),
-        kind::COLON => colon(s, at + 1, state),
-        kind::QUESTION => question(s, at + 1, state),
-        kind::SEMICOLON => {
-            let next = util::skip_ws(s, at + 1);
-            taken(Token::ProgramMessageUnitSeparator, next, true, false)
-        }
-        kind::COMMA => comma(s, at + 1, state),
-        kind::SMALL => word(s, at, state),
-        kind::CAPITAL => word(s, at, state),
-        kind::PARENTHESIS => form(
-            s,
-            state,
-            enclosed::read_expression_data(s, at + 1),
-            state.in_common,
-        ),
-        kind::OTHER => refused(s, state, ErrorCode::SyntaxError),
-        kind::UNDERSCORE => refused(s, state, ErrorCode::SyntaxError),
-        kind::BEYOND => refused(s, state, ErrorCode::InvalidCharacter),
-        kind::HASH => hash(s, at + 1, state),
-        kind::QUOTE => string(s, at + 1, state, b),
-        _ => number(s, at, state),
+        kind::NEWLINE => return newline(s, at + 1, state),
+        kind::BLANK => return blank(s, at, state),
+        kind::STAR => return common(s, at, state),
+        kind::COLON => return colon(s, at + 1, state),
+        kind::QUESTION => return question(s, at + 1, state),
+        kind::SEMICOLON => return semicolon(s, at + 1),
+        kind::COMMA => return comma(s, at + 1, state),
+        kind::SMALL => return word(s, at, state),
+        kind::CAPITAL => return word(s, at, state),
+        kind::PARENTHESIS => return expression(s, at + 1, state),
+        kind::OTHER => return refused(s, state, ErrorCode::SyntaxError),
+        kind::UNDERSCORE => return refused(s, state, ErrorCode::SyntaxError),
+        kind::BEYOND => return refused(s, state, ErrorCode::InvalidCharacter),
+        kind::HASH => return hash(s, at + 1, state),
+        kind::QUOTE => return string(s, at + 1, state, b),
+        _ => return number(s, at, state),
     }
 }
 
@@ -101,98 +93,92 @@ pub fn next_params(s: &[u8], place: usize) -> Step
     next(s, state)
 }
 
-// A newline before a place ends the message where it is the last byte.
+// A newline before a place ends the message.
 fn newline(s: &[u8], next: usize, state: State) -> Step
     ensures { λ r. ⌜ r ≡ newlineBefore (now (s .entry)) state next ⌝ }
 {
-    if next < s.len() {
-        return refused(s, state, ErrorCode::SyntaxError);
+    match separator::newline(s, next) {
+        Pass::To(place) => {
+            return ended(State {
+                place,
+                in_header: state.in_header,
+                in_common: state.in_common,
+            })
+        }
+        Pass::Refused(e) => return refused(s, state, e),
     }
-    Step {
-        answer: Answer::End,
-        state: State {
-            place: next,
-            in_header: state.in_header,
-            in_common: state.in_common,
-        },
-    }
+}
+
+// White space at a place ends a header.
+fn blank(s: &[u8], at: usize, state: State) -> Step
+    ensures { λ r. ⌜ r ≡ taken ProgramHeaderSeparator (runEnd isWhiteSpace (now (s .entry)) at) false (inCommon state) ⌝ }
+{
+    let next = util::skip_ws(s, at);
+    taken(Token::ProgramHeaderSeparator, next, false, state.in_common)
+}
+
+// A semicolon before a place begins a message unit.
+fn semicolon(s: &[u8], at: usize) -> Step
+    ensures { λ r. ⌜ r ≡ taken ProgramMessageUnitSeparator (runEnd isWhiteSpace (now (s .entry)) at) true false ⌝ }
+{
+    let next = util::skip_ws(s, at);
+    taken(Token::ProgramMessageUnitSeparator, next, true, false)
 }
 
 // A colon before a place.
 fn colon(s: &[u8], next: usize, state: State) -> Step
     ensures { λ r. ⌜ r ≡ colonBefore (now (s .entry)) state next ⌝ }
 {
-    if !follows_colon(s, next) {
-        return refused(s, state, ErrorCode::InvalidSeparator);
-    }
-    if !state.in_header {
-        return refused(s, state, ErrorCode::InvalidSeparator);
-    }
-    if state.in_common {
-        return refused(s, state, ErrorCode::InvalidSeparator);
-    }
-    taken(
+    passed(
+        s,
+        state,
+        separator::colon(s, next, state.in_header, state.in_common),
         Token::HeaderMnemonicSeparator,
-        next,
         state.in_header,
-        state.in_common,
     )
 }
 
-// Behind a colon stands a letter, or nothing at all.
-fn follows_colon(s: &[u8], at: usize) -> bool
-    ensures { λ r. ⌜ r ≡ followsColon (now (s .entry)) at ⌝ }
-{
-    if s.len() <= at {
-        return true;
-    }
-    kind::is_letter(s[at])
-}
-
-// A question mark before a place.
+// A question mark before a place ends a header.
 fn question(s: &[u8], next: usize, state: State) -> Step
     ensures { λ r. ⌜ r ≡ questionBefore (now (s .entry)) state next ⌝ }
 {
-    if !follows_query(s, next) {
-        return refused(s, state, ErrorCode::SyntaxError);
-    }
-    if !state.in_header {
-        return refused(s, state, ErrorCode::SyntaxError);
-    }
-    taken(Token::HeaderQuerySuffix, next, false, state.in_common)
-}
-
-// Behind a question mark stands white space, `;`, or nothing at all.
-fn follows_query(s: &[u8], at: usize) -> bool
-    ensures { λ r. ⌜ r ≡ followsQuery (now (s .entry)) at ⌝ }
-{
-    if s.len() <= at {
-        return true;
-    }
-    if s[at] == b';' {
-        return true;
-    }
-    kind::is_white_space(s[at])
+    passed(
+        s,
+        state,
+        separator::question(s, next, state.in_header),
+        Token::HeaderQuerySuffix,
+        false,
+    )
 }
 
 // A comma before a place.
-fn comma(s: &[u8], at: usize, state: State) -> Step
-    ensures { λ r. ⌜ r ≡ commaBefore (now (s .entry)) state at ⌝ }
+fn comma(s: &[u8], next: usize, state: State) -> Step
+    ensures { λ r. ⌜ r ≡ commaBefore (now (s .entry)) state next ⌝ }
 {
-    if state.in_header {
-        return refused(s, state, ErrorCode::HeaderSeparatorError);
-    }
-    let next = util::skip_ws(s, at);
-    if util::stands(s, next, b',') {
-        return refused(s, state, ErrorCode::SyntaxError);
-    }
-    if util::stands(s, next, b';') {
-        return refused(s, state, ErrorCode::SyntaxError);
-    }
-    taken(
+    passed(
+        s,
+        state,
+        separator::comma(s, next, state.in_header),
         Token::ProgramDataSeparator,
-        next,
         state.in_header,
+    )
+}
+
+// A star at a place begins the mnemonic of a common command.
+fn common(s: &[u8], at: usize, state: State) -> Step
+    ensures { λ r. ⌜ r ≡ readAs (now (s .entry)) state true (mnemonic (now (s .entry)) at) ⌝ }
+{
+    form(s, state, item::read_mnemonic(s, at), true)
+}
+
+// A bracket before a place begins an expression.
+fn expression(s: &[u8], at: usize, state: State) -> Step
+    ensures { λ r. ⌜ r ≡ readAs (now (s .entry)) state (inCommon state) (expressionData (now (s .entry)) at) ⌝ }
+{
+    form(
+        s,
+        state,
+        enclosed::read_expression_data(s, at),
         state.in_common,
     )
 }
@@ -247,8 +233,18 @@ fn form(s: &[u8], state: State, read: Read, in_common: bool) -> Step
     ensures { λ r. ⌜ r ≡ readAs (now (s .entry)) state in_common read ⌝ }
 {
     match read {
-        Read::Token { token, next } => taken(token, next, state.in_header, in_common),
-        Read::Refused(e) => refused(s, state, e),
+        Read::Token { token, next } => return taken(token, next, state.in_header, in_common),
+        Read::Refused(e) => return refused(s, state, e),
+    }
+}
+
+// A separator as a token that leaves in-common as it was.
+fn passed(s: &[u8], state: State, pass: Pass, token: Token, in_header: bool) -> Step
+    ensures { λ r. ⌜ r ≡ passed (now (s .entry)) state token in_header pass ⌝ }
+{
+    match pass {
+        Pass::To(next) => return taken(token, next, in_header, state.in_common),
+        Pass::Refused(e) => return refused(s, state, e),
     }
 }
 
@@ -277,5 +273,15 @@ fn refused(s: &[u8], state: State, e: ErrorCode) -> Step
             in_header: state.in_header,
             in_common: state.in_common,
         },
+    }
+}
+
+// The end, which changes nothing.
+fn ended(state: State) -> Step
+    ensures { λ r. ⌜ r ≡ ended state (state .place) ⌝ }
+{
+    Step {
+        answer: Answer::End,
+        state,
     }
 }

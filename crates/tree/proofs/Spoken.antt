@@ -23,7 +23,8 @@ use Rattle.item.specs.Follow.{token}
 use Rattle.item.specs.Word.{starEnd, mnemonic}
 use Rattle.item.proofs.Words.{star-there′, star-none′}
 use Rattle.item.proofs.Seams.{here-get, here-inside, here-next, here-run, here-length}
-use Rattle.tokenizer.specs.Step.{stateOf, ofMessage, taken, readAs, followsColon, colonBefore, followsQuery, questionBefore, wordAt, step}
+use Rattle.separator.specs.Separator.{followsColon, colonTo, followsQuery, questionTo}
+use Rattle.tokenizer.specs.Step.{stateOf, ofMessage, taken, readAs, passed, colonBefore, questionBefore, wordAt, step}
 use Rattle.tokenizer.specs.declared.State.{State}
 use Rattle.tokenizer.specs.declared.Answer.the-variants as answer
 use Rattle.tokenizer.specs.declared.Step.{Step}
@@ -97,7 +98,7 @@ module _ (s : List ℕ) (p : ℕ) where
         rw (le-leb (p + length w) (length s) (omega (arith, l, length-append w y, letter-here .0)), le-leb p (p + length w) (omega arith), k, h) (take-append-seam w y)
 
   colon-well : (y : List ℕ) → drop p s ≡ 58 ∷ y → isLetter (getD y 0 0) ≡ true → colonBefore s (inHeaderAt p) (p + 1) ≡ taken HeaderMnemonicSeparator (p + 1) true false
-  unfolding colonBefore followsColon
+  unfolding colonBefore passed colonTo followsColon
   colon-well y h e =
       let l : isLetter (getD s (p + 1) 0) ≡ true = rw (here-get s (p + 1) y (here-next s p (58 ∷ []) y h)) e in
       let f : (leb (length s) (p + 1) || isLetter (getD s (p + 1) 0)) ≡ true = or-right (leb (length s) (p + 1)) l in
@@ -112,7 +113,7 @@ module _ (s : List ℕ) (p : ℕ) where
 
   module _ (common : Bool) (h : drop p s ≡ 63 ∷ []) where
     question-well : questionBefore s (stateOf p true common) (p + 1) ≡ taken HeaderQuerySuffix (p + 1) false common
-    unfolding questionBefore followsQuery
+    unfolding questionBefore passed questionTo followsQuery
     question-well = rw (le-leb (length s) (p + 1) (omega (arith, here-length s p (63 ∷ []) h)))
 
     question-kind : kindOf (getD s p 0) ≡ 4
@@ -143,7 +144,7 @@ module _ (s : List ℕ) (p : ℕ) where
     star-read = rw star-mnemonic
 
     pub star-step : step s (inHeaderAt p) ≡ taken (ProgramMnemonic (viewOf p (p + 1 + length x))) (p + 1 + length x) true true
-    star-step = sym (star′ s (inHeaderAt p) (here-inside s p 42 (x ++ y) h) _ refl _ star-kind _ refl (sym star-read))
+    star-step = sym (star′ s (inHeaderAt p) (here-inside s p 42 (x ++ y) h) _ refl _ star-kind (sym star-read))
 
     pub star-part : partOf s (viewOf p (p + 1 + length x)) ≡ 42 ∷ x
     unfolding partOf

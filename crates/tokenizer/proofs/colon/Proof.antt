@@ -1,44 +1,15 @@
-use Rattle.tokenizer.proofs.Steps.{arms}
+use Rattle.tokenizer.proofs.Steps.{separators}
 use Rattle.tokenizer.proofs.colon.Statement.{statement}
 use Rattle.tokenizer.proofs.colon.Tie as tie
 
-follows-colon-requires : tie.Need-follows-colon-requires
-follows-colon-requires c κs = search arms
+colon-requires : tie.Need-colon-requires
+colon-requires c κs = search separators
 
-refused-requires : tie.Need-refused-requires
-refused-requires c κs = search arms
+passed-requires : tie.Need-passed-requires
+passed-requires c κs = search separators
 
 returns : tie.Need-returns
-returns c = search arms
-
-refused-requires-2 : tie.Need-refused-requires-2
-refused-requires-2 c κs = search arms
-
-returns-2 : tie.Need-returns-2
-returns-2 c = search arms
-
-refused-requires-3 : tie.Need-refused-requires-3
-refused-requires-3 c κs = search arms
-
-returns-3 : tie.Need-returns-3
-returns-3 c = search arms
-
-taken-requires : tie.Need-taken-requires
-taken-requires c κs = search arms
-
-returns-4 : tie.Need-returns-4
-returns-4 c = search arms
+returns c = search separators
 
 pub colon-spec : {M : Type 1} → statement M
-colon-spec =
-    tie.close
-    (tie.spec
-    follows-colon-requires
-    refused-requires
-    returns
-    refused-requires-2
-    returns-2
-    refused-requires-3
-    returns-3
-    taken-requires
-    returns-4)
+colon-spec = tie.close (tie.spec colon-requires passed-requires returns)

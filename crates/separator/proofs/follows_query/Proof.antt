@@ -1,24 +1,24 @@
-use Rattle.tokenizer.proofs.Steps.{arms}
-use Rattle.tokenizer.proofs.follows_query.Statement.{statement}
-use Rattle.tokenizer.proofs.follows_query.Tie as tie
+use Rattle.separator.proofs.Separators.{queries}
+use Rattle.separator.proofs.follows_query.Statement.{statement}
+use Rattle.separator.proofs.follows_query.Tie as tie
 
 returns : tie.Need-returns
-returns c = search arms
+returns c = search queries
 
 shared-slice-read-if2 : tie.Need-shared-slice-read-if2
-shared-slice-read-if2 c = search arms
+shared-slice-read-if2 c = search queries
 
 returns-2 : tie.Need-returns-2
-returns-2 c = search arms
+returns-2 c = search queries
 
 shared-slice-read-is-white-space : tie.Need-shared-slice-read-is-white-space
-shared-slice-read-is-white-space c = search arms
+shared-slice-read-is-white-space c = search queries
 
 is-white-space-requires : tie.Need-is-white-space-requires
-is-white-space-requires c κs = search arms
+is-white-space-requires c κs = search queries
 
 returns-3 : tie.Need-returns-3
-returns-3 c = search arms
+returns-3 c = search queries
 
 pub follows-query-spec : {M : Type 1} → statement M
 follows-query-spec =

@@ -1,18 +1,18 @@
-use Rattle.tokenizer.proofs.Steps.{arms}
-use Rattle.tokenizer.proofs.follows_colon.Statement.{statement}
-use Rattle.tokenizer.proofs.follows_colon.Tie as tie
+use Rattle.separator.proofs.Separators.{colons}
+use Rattle.separator.proofs.follows_colon.Statement.{statement}
+use Rattle.separator.proofs.follows_colon.Tie as tie
 
 returns : tie.Need-returns
-returns c = search arms
+returns c = search colons
 
 shared-slice-read-is-letter : tie.Need-shared-slice-read-is-letter
-shared-slice-read-is-letter c = search arms
+shared-slice-read-is-letter c = search colons
 
 is-letter-requires : tie.Need-is-letter-requires
-is-letter-requires c κs = search arms
+is-letter-requires c κs = search colons
 
 returns-2 : tie.Need-returns-2
-returns-2 c = search arms
+returns-2 c = search colons
 
 pub follows-colon-spec : {M : Type 1} → statement M
 follows-colon-spec =

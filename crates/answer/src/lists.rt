@@ -8,11 +8,11 @@ use channel_spec::Item;
 use coordinate::Coordinate;
 use coordinate::Pair;
 use coordinate::Triple;
-use coordinate::UnsignedCoordinate;
-use coordinate::UnsignedPair;
-use coordinate::UnsignedTriple;
 use error::ErrorCode;
 use token::View;
+use unsigned_coordinate::UnsignedCoordinate;
+use unsigned_coordinate::UnsignedPair;
+use unsigned_coordinate::UnsignedTriple;
 
 // The items of a channel list; `none` for a text that is not one.
 pub(crate) fn put_channels(text: &[u8], out: &mut Out, sink: Sink) -> Sink {
@@ -172,15 +172,19 @@ fn put_coordinates(out: &mut Out, sink: Sink, part: &[u8]) -> Sink {
     let i = put(out, sink, b" i ");
     let one = put_coordinate(out, i, coordinate::read_coordinate(part));
     let u = put(out, one, b" u ");
-    let unsigned_one = put_unsigned_coordinate(out, u, coordinate::read_unsigned_coordinate(part));
+    let unsigned_one = put_unsigned_coordinate(
+        out,
+        u,
+        unsigned_coordinate::read_unsigned_coordinate(part),
+    );
     let ii = put(out, unsigned_one, b" ii ");
     let two = put_pair(out, ii, coordinate::read_pair(part));
     let uu = put(out, two, b" uu ");
-    let unsigned_two = put_unsigned_pair(out, uu, coordinate::read_unsigned_pair(part));
+    let unsigned_two = put_unsigned_pair(out, uu, unsigned_coordinate::read_unsigned_pair(part));
     let iii = put(out, unsigned_two, b" iii ");
     let three = put_triple(out, iii, coordinate::read_triple(part));
     let uuu = put(out, three, b" uuu ");
-    put_unsigned_triple(out, uuu, coordinate::read_unsigned_triple(part))
+    put_unsigned_triple(out, uuu, unsigned_coordinate::read_unsigned_triple(part))
 }
 
 fn put_coordinate(out: &mut Out, sink: Sink, coordinate: Coordinate) -> Sink {

@@ -27,8 +27,7 @@ use Rattle.token.specs.View.{partOf}
 use Rattle.item.proofs.Seams.{here-inside, here-stands, here-next}
 use Rattle.channel_spec.specs.Spec.{inSpec, bang, bangs, dimensionOf, specTo, specAt}
 use Rattle.channel_spec.specs.Item.{refusal, bangEnd, itemBy, itemOf, itemAt}
-use Rattle.coordinate.specs.Coordinate as values
-use Rattle.coordinate.specs.Coordinate.{onto, parts, whole, integer, both, integers, written, firstOf, coordinateOf, pairOf, tripleOf, unsignedPairOf, unsignedTripleOf}
+use Rattle.coordinate.specs.Coordinate.{onto, parts, whole, integer, both, integers, written, firstOf, coordinateOf, pairOf, tripleOf}
 use Rattle.coordinate.specs.Form.{signedBy, Decimal, Coordinates, Walk}
 use Rattle.coordinate.specs.Form.Coordinates.{one, more}
 use Rattle.coordinate.specs.Form.Walk.{ends, gives}
@@ -46,11 +45,10 @@ use Rattle.coordinate.specs.declared.Triple.the-variants as triple
 use Rattle.coordinate.specs.Claims.{pairIn, tripleIn, Rows, Claims}
 
 rows : Rows
-unfolding written integers integer whole both parts onto pairOf tripleOf coordinateOf firstOf values.unsignedOf unsignedPairOf unsignedTripleOf specAt specTo dimensionOf bangs bang inSpec itemAt itemOf itemBy refusal bangEnd signedAt signedOf unsignedAt unsignedOf foundAt digits valueOf isDigitOf digitOf run runEnd signEnd standsAt partOf isDigit isSign
+unfolding written integers integer whole both parts onto pairOf tripleOf coordinateOf firstOf specAt specTo dimensionOf bangs bang inSpec itemAt itemOf itemBy refusal bangEnd signedAt signedOf unsignedAt unsignedOf foundAt digits valueOf isDigitOf digitOf run runEnd signEnd standsAt partOf isDigit isSign
 rows =
     record {
       three-seven = refl;
-      unsigned-three-seven = refl;
       spec = refl;
       one-two-three = refl;
       zeros = refl;
@@ -64,10 +62,6 @@ rows =
       two-for-one = refl;
       first-alone = refl;
       none = refl;
-      negative = refl;
-      negative-second = refl;
-      negative-third = refl;
-      negative-unwritten = refl;
       row-item = refl;
       column-item = refl;
       last-item = refl;

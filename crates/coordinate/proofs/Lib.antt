@@ -3,5 +3,4 @@ pub mod Integers
 pub mod Parts
 pub mod Bangs
 pub mod Coordinates
-pub mod Unsigned
 pub mod Claims

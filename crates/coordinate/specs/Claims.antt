@@ -5,13 +5,13 @@ use mathlib.Core.List.{List, [], _∷_}
 use lib.IntN.{ℤ, pos, negℤ}
 use lib.Signed.{mag}
 use lib.ListN.{length}
-use Rattle.error.specs.declared.ErrorCode.the-variants.{ExpressionError, InvalidExpression, IllegalParameterValue}
+use Rattle.error.specs.declared.ErrorCode.the-variants.{ExpressionError, InvalidExpression}
 use Rattle.kind.specs.Text.{ascii}
 use Rattle.util.specs.Walk.{after}
 use Rattle.token.specs.View.{viewOf}
 use Rattle.channel_spec.specs.Spec.{dimensionOf, specAt}
 use Rattle.channel_spec.specs.Item.{itemAt}
-use Rattle.coordinate.specs.Coordinate.{written, coordinateOf, pairOf, tripleOf, unsignedOf, unsignedPairOf, unsignedTripleOf}
+use Rattle.coordinate.specs.Coordinate.{written, coordinateOf, pairOf, tripleOf}
 use Rattle.coordinate.specs.Form.{Decimal, Coordinates, Walk}
 use Rattle.channel_spec.specs.declared.Item.the-variants as item
 use Rattle.coordinate.specs.declared.Coordinate.the-variants as coordinate
@@ -19,9 +19,6 @@ use Rattle.coordinate.specs.declared.Pair.{Pair}
 use Rattle.coordinate.specs.declared.Pair.the-variants as pair
 use Rattle.coordinate.specs.declared.Triple.{Triple}
 use Rattle.coordinate.specs.declared.Triple.the-variants as triple
-use Rattle.coordinate.specs.declared.UnsignedCoordinate.the-variants as unsigned-coordinate
-use Rattle.coordinate.specs.declared.UnsignedPair.the-variants as unsigned-pair
-use Rattle.coordinate.specs.declared.UnsignedTriple.the-variants as unsigned-triple
 
 -- what a text is as two and as three coordinates
 abbrev pub pairIn : List ℕ → Pair
@@ -34,7 +31,6 @@ tripleIn t = tripleOf (written t)
 pub record Rows : Type 0 where
   -- row 10 of the table that is proved together: row 3, column 7
   pub three-seven : pairIn (ascii "3!7") ≡ pair.Values (pos 3) (pos 7)
-  pub unsigned-three-seven : unsignedPairOf (pairIn (ascii "3!7")) ≡ unsigned-pair.Values 3 7
   pub spec : specAt (ascii "@3!7,") 1 ≡ record { view = viewOf 1 4; dimension = 2 }
   -- three coordinates, zeros in front, signs, and both ends of 64 bits
   pub one-two-three : tripleIn (ascii "1!2!3") ≡ triple.Values (pos 1) (pos 2) (pos 3)
@@ -51,11 +47,6 @@ pub record Rows : Type 0 where
   -- one coordinate is the first item, whatever stands behind it
   pub first-alone : coordinateOf (ascii "1+2") ≡ coordinate.Value (pos 1)
   pub none : coordinateOf [] ≡ coordinate.Refused ExpressionError
-  -- a negative is refused last
-  pub negative : unsignedOf (coordinateOf (ascii "-1")) ≡ unsigned-coordinate.Refused IllegalParameterValue
-  pub negative-second : unsignedPairOf (pairIn (ascii "1!-2")) ≡ unsigned-pair.Refused IllegalParameterValue
-  pub negative-third : unsignedTripleOf (tripleIn (ascii "1!2!-3")) ≡ unsigned-triple.Refused IllegalParameterValue
-  pub negative-unwritten : unsignedPairOf (pairIn (ascii "-1!")) ≡ unsigned-pair.Refused ExpressionError
   -- the walk through `3!7`: 3, 7 and the end; through `1!!`: 1, and then a `!` behind which no integer stands
   pub row-item : itemAt (ascii "3!7") 0 ≡ record { item = item.Value (pos 3); place = 1 }
   pub column-item : itemAt (ascii "3!7") 1 ≡ record { item = item.Value (pos 7); place = 3 }

@@ -2,11 +2,11 @@
 use Prim.Native.Nat.{ℕ}
 use mathlib.Core.List.{List, [], _∷_}
 use mathlib.Core.Option.{Option, none, some}
-use mathlib.Core.Bool.{Bool, true, false, cond, _||_}
+use mathlib.Core.Bool.{cond}
 use lib.Dec.{eqb}
-use lib.IntN.{ℤ, pos, negsuc, natAbs}
+use lib.IntN.{ℤ}
 use lib.ListN.{length}
-use Rattle.error.specs.declared.ErrorCode.the-variants.{ExpressionError, InvalidExpression, IllegalParameterValue}
+use Rattle.error.specs.declared.ErrorCode.the-variants.{ExpressionError, InvalidExpression}
 use Rattle.kind.specs.Class.{is}
 use Rattle.number.specs.Number.{signedAt}
 use Rattle.number.specs.declared.Signed.{Signed}
@@ -21,12 +21,6 @@ use Rattle.coordinate.specs.declared.Pair.{Pair}
 use Rattle.coordinate.specs.declared.Pair.the-variants as pair
 use Rattle.coordinate.specs.declared.Triple.{Triple}
 use Rattle.coordinate.specs.declared.Triple.the-variants as triple
-use Rattle.coordinate.specs.declared.UnsignedCoordinate.{UnsignedCoordinate}
-use Rattle.coordinate.specs.declared.UnsignedCoordinate.the-variants as unsigned-coordinate
-use Rattle.coordinate.specs.declared.UnsignedPair.{UnsignedPair}
-use Rattle.coordinate.specs.declared.UnsignedPair.the-variants as unsigned-pair
-use Rattle.coordinate.specs.declared.UnsignedTriple.{UnsignedTriple}
-use Rattle.coordinate.specs.declared.UnsignedTriple.the-variants as unsigned-triple
 
 -- a character put before the first of some texts
 unfoldable pub onto : ℕ → List (List ℕ) → List (List ℕ)
@@ -90,24 +84,3 @@ firstOf (item.Refused e) = coordinate.Refused e
 -- (docs/DIFFERENCES.md)
 unfoldable pub coordinateOf : List ℕ → Coordinate
 coordinateOf t = cond (eqb (dimensionOf t) 1) (firstOf ((itemAt t 0) .item)) (coordinate.Refused InvalidExpression)
-
-abbrev pub isNegative : ℤ → Bool
-isNegative (pos n) = false
-isNegative (negsuc n) = true
-
--- The unsigned forms: a negative is -224, after all else. The largest value is that of the signed forms.
-unfoldable pub unsignedOf : Coordinate → UnsignedCoordinate
-unsignedOf (coordinate.Value a) = cond (isNegative a) (unsigned-coordinate.Refused IllegalParameterValue) (unsigned-coordinate.Value (natAbs a))
-unsignedOf (coordinate.Refused e) = unsigned-coordinate.Refused e
-
-unfoldable pub unsignedPairOf : Pair → UnsignedPair
-unsignedPairOf (pair.Values a b) =
-    cond (isNegative a || isNegative b) (unsigned-pair.Refused IllegalParameterValue) (unsigned-pair.Values (natAbs a) (natAbs b))
-unsignedPairOf (pair.Refused e) = unsigned-pair.Refused e
-
-unfoldable pub unsignedTripleOf : Triple → UnsignedTriple
-unsignedTripleOf (triple.Values a b c) =
-    cond (isNegative a || (isNegative b || isNegative c))
-    (unsigned-triple.Refused IllegalParameterValue)
-    (unsigned-triple.Values (natAbs a) (natAbs b) (natAbs c))
-unsignedTripleOf (triple.Refused e) = unsigned-triple.Refused e

@@ -1,12 +1,10 @@
 // The coordinates of a channel, SCPI-99 8.3.2. A spec is given as its part of the text, and its `!` are counted there.
 // expression/channel_list.rs of the original.
 ghost use mathlib.Core.Path.{_≡_};
-ghost use mathlib.Core.Bool.{false};
 ghost use lib.Dec.{ltb};
-ghost use lib.IntN.{natAbs};
 ghost use lib.ListN.{drop};
 ghost use Rattle.channel_spec.specs.Spec.{bangs};
-ghost use Rattle.coordinate.specs.Coordinate.{coordinateOf, written, pairOf, tripleOf, isNegative, unsignedOf, unsignedPairOf, unsignedTripleOf};
+ghost use Rattle.coordinate.specs.Coordinate.{coordinateOf, written, pairOf, tripleOf};
 ghost use Rattle.coordinate.specs.Reading.{noCoordinate, joinedAt, lastOf};
 use error::ErrorCode;
 use number::Signed;
@@ -23,21 +21,6 @@ pub enum Pair {
 
 pub enum Triple {
     Values(i64, i64, i64),
-    Refused(ErrorCode),
-}
-
-pub enum UnsignedCoordinate {
-    Value(u64),
-    Refused(ErrorCode),
-}
-
-pub enum UnsignedPair {
-    Values(u64, u64),
-    Refused(ErrorCode),
-}
-
-pub enum UnsignedTriple {
-    Values(u64, u64, u64),
     Refused(ErrorCode),
 }
 
@@ -163,88 +146,4 @@ fn read_last(spec: &[u8], at: usize) -> Last
         Signed::NoDigit => Last::Nothing,
         Signed::TooLarge => Last::Nothing,
     }
-}
-
-// The one coordinate of a spec, which is no negative.
-pub fn read_unsigned_coordinate(spec: &[u8]) -> UnsignedCoordinate
-    ensures { λ r. ⌜ r ≡ unsignedOf (coordinateOf (now (spec .entry))) ⌝ }
-{
-    match read_coordinate(spec) {
-        Coordinate::Value(value) => unsigned_value(value),
-        Coordinate::Refused(e) => UnsignedCoordinate::Refused(e),
-    }
-}
-
-// The two coordinates of a spec, neither a negative.
-pub fn read_unsigned_pair(spec: &[u8]) -> UnsignedPair
-    ensures { λ r. ⌜ r ≡ unsignedPairOf (pairOf (written (now (spec .entry)))) ⌝ }
-{
-    match read_pair(spec) {
-        Pair::Values(first, second) => unsigned_pair(first, second),
-        Pair::Refused(e) => UnsignedPair::Refused(e),
-    }
-}
-
-// The three coordinates of a spec, none a negative.
-pub fn read_unsigned_triple(spec: &[u8]) -> UnsignedTriple
-    ensures { λ r. ⌜ r ≡ unsignedTripleOf (tripleOf (written (now (spec .entry)))) ⌝ }
-{
-    match read_triple(spec) {
-        Triple::Values(first, second, third) => unsigned_triple(first, second, third),
-        Triple::Refused(e) => UnsignedTriple::Refused(e),
-    }
-}
-
-fn unsigned_value(value: i64) -> UnsignedCoordinate
-    ensures { λ r. ⌜ r ≡ unsignedOf (Coordinate.Value value) ⌝ }
-{
-    if is_negative(value) {
-        return UnsignedCoordinate::Refused(ErrorCode::IllegalParameterValue);
-    }
-    UnsignedCoordinate::Value(without_sign(value))
-}
-
-fn unsigned_pair(first: i64, second: i64) -> UnsignedPair
-    ensures { λ r. ⌜ r ≡ unsignedPairOf (Pair.Values first second) ⌝ }
-{
-    if is_negative(first) {
-        return UnsignedPair::Refused(ErrorCode::IllegalParameterValue);
-    }
-    if is_negative(second) {
-        return UnsignedPair::Refused(ErrorCode::IllegalParameterValue);
-    }
-    UnsignedPair::Values(without_sign(first), without_sign(second))
-}
-
-fn unsigned_triple(first: i64, second: i64, third: i64) -> UnsignedTriple
-    ensures { λ r. ⌜ r ≡ unsignedTripleOf (Triple.Values first second third) ⌝ }
-{
-    if is_negative(first) {
-        return UnsignedTriple::Refused(ErrorCode::IllegalParameterValue);
-    }
-    if is_negative(second) {
-        return UnsignedTriple::Refused(ErrorCode::IllegalParameterValue);
-    }
-    if is_negative(third) {
-        return UnsignedTriple::Refused(ErrorCode::IllegalParameterValue);
-    }
-    UnsignedTriple::Values(
-        without_sign(first),
-        without_sign(second),
-        without_sign(third),
-    )
-}
-
-fn is_negative(value: i64) -> bool
-    ensures { λ r. ⌜ r ≡ isNegative value ⌝ }
-{
-    value < 0
-}
-
-// A number that is no negative, as an unsigned one.
-fn without_sign(value: i64) -> u64
-    requires { ⌜ isNegative value ≡ false ⌝ }
-    ensures { λ r. ⌜ r ≡ natAbs value ⌝ }
-{
-    value as u64
 }

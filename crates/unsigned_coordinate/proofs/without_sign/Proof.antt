@@ -1,6 +1,6 @@
-use Rattle.coordinate.proofs.Unsigned.{sizes}
-use Rattle.coordinate.proofs.without_sign.Statement.{statement}
-use Rattle.coordinate.proofs.without_sign.Tie as tie
+use Rattle.unsigned_coordinate.proofs.Unsigned.{sizes}
+use Rattle.unsigned_coordinate.proofs.without_sign.Statement.{statement}
+use Rattle.unsigned_coordinate.proofs.without_sign.Tie as tie
 
 cast-result : tie.Need-cast-result
 cast-result c = search sizes

@@ -13,19 +13,19 @@ use mir.Val.{Fits, SFits, toZ, ofZ}
 use mir.ValLaws.{toZ-ofZ}
 use Rattle.error.specs.declared.ErrorCode.{ErrorCode}
 use Rattle.error.specs.declared.ErrorCode.the-variants.{IllegalParameterValue}
-use Rattle.coordinate.specs.Coordinate.{isNegative, unsignedOf, unsignedPairOf, unsignedTripleOf}
+use Rattle.unsigned_coordinate.specs.Unsigned.{isNegative, unsignedOf, unsignedPairOf, unsignedTripleOf}
 use Rattle.coordinate.specs.declared.Coordinate.{Coordinate}
 use Rattle.coordinate.specs.declared.Coordinate.the-variants as coordinate
 use Rattle.coordinate.specs.declared.Pair.{Pair}
 use Rattle.coordinate.specs.declared.Pair.the-variants as pair
 use Rattle.coordinate.specs.declared.Triple.{Triple}
 use Rattle.coordinate.specs.declared.Triple.the-variants as triple
-use Rattle.coordinate.specs.declared.UnsignedCoordinate.{UnsignedCoordinate}
-use Rattle.coordinate.specs.declared.UnsignedCoordinate.the-variants as unsigned-coordinate
-use Rattle.coordinate.specs.declared.UnsignedPair.{UnsignedPair}
-use Rattle.coordinate.specs.declared.UnsignedPair.the-variants as unsigned-pair
-use Rattle.coordinate.specs.declared.UnsignedTriple.{UnsignedTriple}
-use Rattle.coordinate.specs.declared.UnsignedTriple.the-variants as unsigned-triple
+use Rattle.unsigned_coordinate.specs.declared.UnsignedCoordinate.{UnsignedCoordinate}
+use Rattle.unsigned_coordinate.specs.declared.UnsignedCoordinate.the-variants as unsigned-coordinate
+use Rattle.unsigned_coordinate.specs.declared.UnsignedPair.{UnsignedPair}
+use Rattle.unsigned_coordinate.specs.declared.UnsignedPair.the-variants as unsigned-pair
+use Rattle.unsigned_coordinate.specs.declared.UnsignedTriple.{UnsignedTriple}
+use Rattle.unsigned_coordinate.specs.declared.UnsignedTriple.the-variants as unsigned-triple
 
 below-zero : (v : ℤ) → ltZ v (pos 0) ≡ isNegative v
 below-zero (pos n) = le-ltb n 0 (omega arith)

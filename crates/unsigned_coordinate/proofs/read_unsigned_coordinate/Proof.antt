@@ -1,6 +1,6 @@
-use Rattle.coordinate.proofs.Unsigned.{laws}
-use Rattle.coordinate.proofs.read_unsigned_coordinate.Statement.{statement}
-use Rattle.coordinate.proofs.read_unsigned_coordinate.Tie as tie
+use Rattle.unsigned_coordinate.proofs.Unsigned.{laws}
+use Rattle.unsigned_coordinate.proofs.read_unsigned_coordinate.Statement.{statement}
+use Rattle.unsigned_coordinate.proofs.read_unsigned_coordinate.Tie as tie
 
 read-coordinate-requires : tie.Need-read-coordinate-requires
 read-coordinate-requires c κs = search laws

@@ -1,6 +1,6 @@
-use Rattle.coordinate.proofs.Unsigned.{laws}
-use Rattle.coordinate.proofs.read_unsigned_triple.Statement.{statement}
-use Rattle.coordinate.proofs.read_unsigned_triple.Tie as tie
+use Rattle.unsigned_coordinate.proofs.Unsigned.{laws}
+use Rattle.unsigned_coordinate.proofs.read_unsigned_triple.Statement.{statement}
+use Rattle.unsigned_coordinate.proofs.read_unsigned_triple.Tie as tie
 
 read-triple-requires : tie.Need-read-triple-requires
 read-triple-requires c κs = search laws

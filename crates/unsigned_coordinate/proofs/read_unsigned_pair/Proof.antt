@@ -1,6 +1,6 @@
-use Rattle.coordinate.proofs.Unsigned.{laws}
-use Rattle.coordinate.proofs.read_unsigned_pair.Statement.{statement}
-use Rattle.coordinate.proofs.read_unsigned_pair.Tie as tie
+use Rattle.unsigned_coordinate.proofs.Unsigned.{laws}
+use Rattle.unsigned_coordinate.proofs.read_unsigned_pair.Statement.{statement}
+use Rattle.unsigned_coordinate.proofs.read_unsigned_pair.Tie as tie
 
 read-pair-requires : tie.Need-read-pair-requires
 read-pair-requires c κs = search laws

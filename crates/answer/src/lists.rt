@@ -313,6 +313,6 @@ fn put_digits(out: &mut Out, sink: Sink, n: u64) -> Sink {
     put(out, sink, &digits[..count])
 }
 
-fn put_byte(out: &mut Out, sink: Sink, b: u8) -> Sink {
+pub(crate) fn put_byte(out: &mut Out, sink: Sink, b: u8) -> Sink {
     put(out, sink, &[b])
 }

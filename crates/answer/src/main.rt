@@ -1,5 +1,6 @@
 // Answers requests: a line of standard input each, and for each a line of standard output.
 mod lists;
+mod messages;
 mod tables;
 
 ghost use Prim.Native.Nat.{_+_, _≤_};
@@ -9,6 +10,7 @@ use libc::STDIN_FILENO;
 use libc::STDOUT_FILENO;
 use lists::put_channels;
 use lists::put_numbers;
+use messages::walk_message;
 use request::Text;
 use tables::check_table;
 use tables::resolve_alone;
@@ -197,6 +199,8 @@ fn respond(line: &[u8], words: &mut Nodes, text: &mut Texts, out: &mut Out, sink
         b'M' => names(line, at + 1, text, out, sink),
         b'F' => check_table(line, at + 1, words, text, out, sink),
         b'A' => resolve_alone(line, at + 1, words, text, out, sink),
+        b'S' => walk_message(line, at + 1, false, words, text, out, sink),
+        b'W' => walk_message(line, at + 1, true, words, text, out, sink),
         asked => respond_text(asked, line, at + 1, text, out, sink),
     }
 }

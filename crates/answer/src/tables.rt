@@ -58,7 +58,7 @@ pub(crate) fn resolve_alone(
     out: &mut Out,
     sink: Sink,
 ) -> Sink {
-    let taken = take_header(line, at, words, text);
+    let taken = take_asked(line, at, false, words, text);
     if !taken.ok {
         return refuse(out, sink);
     }
@@ -85,66 +85,116 @@ fn put_command(out: &mut Out, sink: Sink, command: u16, query: bool, branch: usi
 }
 
 // The form of a command.
-fn put_form(out: &mut Out, sink: Sink, query: bool) -> Sink {
+pub(crate) fn put_form(out: &mut Out, sink: Sink, query: bool) -> Sink {
     if query {
         return put(out, sink, b" query");
     }
     put(out, sink, b" event")
 }
 
-// Whether a table, a start and a header were taken from a line; how many words the table has in the word buffer, the
-// place behind its names in the text buffer, the start, and the place behind the header, which follows the names.
-struct TakenHeader {
-    ok: bool,
-    nodes: usize,
-    names: usize,
-    start: u64,
-    end: usize,
+// Whether a table, a start, a number of slots and a text were taken from a line; how many words the table has in the word
+// buffer, the place behind its names in the text buffer, the start, how many slots there are, and the place behind the text,
+// which follows the names.
+pub(crate) struct Asked {
+    pub(crate) ok: bool,
+    pub(crate) nodes: usize,
+    pub(crate) names: usize,
+    pub(crate) start: u64,
+    pub(crate) slots: usize,
+    pub(crate) end: usize,
 }
 
-// Takes what is left of a line as a table, a start and a header in hex, which is written behind the names.
-fn take_header(line: &[u8], at: usize, words: &mut [u64], text: &mut [u8]) -> TakenHeader
-    ensures { λ r. ⌜ (r .nodes ≤ length (now (words .exit))) × (r .names ≤ r .end) × (r .end ≤ length (now (text .exit))) ⌝ }
+// Takes what is left of a line as a table, a start, the number of slots where it is asked for, and a text in hex, which is
+// written behind the names.
+pub(crate) fn take_asked(
+    line: &[u8],
+    at: usize,
+    slotted: bool,
+    words: &mut [u64],
+    text: &mut [u8],
+) -> Asked
+    ensures { λ r. ⌜ (r .nodes ≤ length (now (words .exit))) × (r .names ≤ r .end) × (r .end ≤ length (now (text .exit))) × (r .slots ≤ 32768) ⌝ }
 {
     let table = take_table(line, at, words, text);
     if !table.ok {
-        return no_header();
+        return not_asked();
     }
-    let start = take_number(line, table.next);
-    if !start.ok {
-        return no_header();
+    let numbers = take_numbers(line, table.next, slotted);
+    if !numbers.ok {
+        return not_asked();
     }
-    let header = take_text(line, start.next, text, table.names);
-    if !header.ok {
-        return no_header();
+    let taken = take_text(line, numbers.next, text, table.names);
+    if !taken.ok {
+        return not_asked();
     }
-    if !is_last(line, header.next) {
-        return no_header();
+    if !is_last(line, taken.next) {
+        return not_asked();
     }
-    TakenHeader {
+    Asked {
         ok: true,
         nodes: table.nodes,
         names: table.names,
-        start: start.value,
-        end: header.end,
+        start: numbers.start,
+        slots: numbers.slots,
+        end: taken.end,
     }
 }
 
 // What is said of a line that has not exactly these fields.
-fn no_header() -> TakenHeader
-    ensures { λ r. ⌜ (r .nodes ≡ 0) × (r .names ≡ 0) × (r .end ≡ 0) ⌝ }
+fn not_asked() -> Asked
+    ensures { λ r. ⌜ (r .nodes ≡ 0) × (r .names ≡ 0) × (r .end ≡ 0) × (r .slots ≡ 0) ⌝ }
 {
-    TakenHeader {
+    Asked {
         ok: false,
         nodes: 0,
         names: 0,
         start: 0,
+        slots: 0,
         end: 0,
     }
 }
 
+// Whether a start and a number of slots were taken from a line; the place behind their fields in the line, and the numbers.
+struct TakenNumbers {
+    ok: bool,
+    next: usize,
+    start: u64,
+    slots: usize,
+}
+
+// Takes the next field of a line as a start, and the one behind it as a number of slots where it is asked for; else there are
+// all slots.
+fn take_numbers(line: &[u8], at: usize, slotted: bool) -> TakenNumbers
+    ensures { λ r. ⌜ r .slots ≤ 32768 ⌝ }
+{
+    let start = take_number(line, at);
+    if !slotted {
+        return TakenNumbers {
+            ok: start.ok,
+            next: start.next,
+            start: start.value,
+            slots: 32768,
+        };
+    }
+    let slots = take_number(line, start.next);
+    if 32768 < slots.value {
+        return TakenNumbers {
+            ok: false,
+            next: slots.next,
+            start: start.value,
+            slots: 0,
+        };
+    }
+    TakenNumbers {
+        ok: start.ok && slots.ok,
+        next: slots.next,
+        start: start.value,
+        slots: slots.value as usize,
+    }
+}
+
 // What resolution says of a header that was taken.
-fn resolve_taken(words: &[u64], text: &[u8], taken: TakenHeader) -> Resolved
+fn resolve_taken(words: &[u64], text: &[u8], taken: Asked) -> Resolved
     requires { ⌜ (taken .nodes ≤ length (now words)) × (taken .names ≤ taken .end) × (taken .end ≤ length (now text)) ⌝ }
 {
     let nodes = taken.nodes;

@@ -7,6 +7,8 @@
 //!     M <hexname> <hexword>  mnemonic_match and mnemonic_compare
 //!     R <words>/<nameshex> <start> <hex>  message; handler = the original's Parameters, next_optional_token until None
 //!     S <words>/<nameshex> <start> <hex>  the same; handler = items with single commas, anything else -102
+//!     W <words>/<nameshex> <start> <slots> <hex>  what S says, with 8 in the place of the first unit that has no slot; there are
+//!                                         32,768 slots at most
 //!     A <words>/<nameshex> <start> <hex>  one header alone; handler = none of the items is read
 //!
 //! Fields are separated by runs of the bytes 9, 12, 13 and 32. Words are decimal with commas between, no word is "-". A line
@@ -301,9 +303,14 @@ impl Unit {
     fn kept(&self) -> String { self.branch.map_or("?".into(), |b| b.to_string()) }
 }
 
-fn message((units, r): Run) -> String {
-    let mut out: Vec<String> = units.iter().map(|u| format!("unit {} {} items {} branch {}", u.command, u.form(), u.items, u.kept())).collect();
-    out.push(match r { Ok(()) => format!("end {}", units.len()), Err(e) => format!("refused {} {}", e.get_code(), units.len()) });
+fn message((units, r): Run, slots: usize) -> String {
+    let show = |u: &Unit| format!("unit {} {} items {} branch {}", u.command, u.form(), u.items, u.kept());
+    let mut out: Vec<String> = units.iter().take(slots).map(show).collect();
+    out.push(match r {
+        _ if slots < units.len() => format!("refused 8 {}", slots),
+        Ok(()) => format!("end {}", units.len()),
+        Err(e) => format!("refused {} {}", e.get_code(), units.len()),
+    });
     out.join(" | ")
 }
 
@@ -344,10 +351,19 @@ fn answer(line: &str) -> Option<String> {
             let start: usize = number(f[2])?;
             let t = match kept_tree(f[1])? { None => return Some("table?".into()), Some(t) => t };
             guard(|| match f[0] {
-                "R" => run(t, start, &x, Items::Original).map(message),
-                "S" => run(t, start, &x, Items::Single).map(message),
+                "R" => run(t, start, &x, Items::Original).map(|r| message(r, usize::MAX)),
+                "S" => run(t, start, &x, Items::Single).map(|r| message(r, usize::MAX)),
                 _ => run(t, start, &x, Items::Unread).map(|r| header(&x, r)),
             }.unwrap_or_else(|why| why))
+        }
+        ("W", 5) => {
+            let x = unhex(f[4])?;
+            let start: usize = number(f[2])?;
+            let slots = number(f[3]).filter(|n| *n <= 32_768)?;
+            match kept_tree(f[1])? {
+                None => "table?".into(),
+                Some(t) => guard(|| run(t, start, &x, Items::Single).map_or_else(|why| why, |r| message(r, slots))),
+            }
         }
         _ => return None,
     })

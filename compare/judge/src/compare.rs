@@ -67,6 +67,9 @@ pub fn compare(
     if tally.done < n {
         return Err(format!("{} has only {} cases", kind.name, tally.done));
     }
+    for (entry, count) in &tally.entries {
+        println!("{count} as listed: {entry}");
+    }
     println!(
         "{}: {n} cases, {} differ, {} as listed",
         kind.name, tally.differ, tally.listed
@@ -175,8 +178,8 @@ struct Tally<'a> {
     done: usize,
     differ: usize,
     listed: usize,
-    /// The listed entries of which an example was shown.
-    entries: Vec<&'static str>,
+    /// The listed entries that were met, and how often each.
+    entries: Vec<(&'static str, usize)>,
 }
 
 impl Tally<'_> {
@@ -189,9 +192,12 @@ impl Tally<'_> {
             match &said.listed {
                 Some((entry, _)) if right => {
                     self.listed += 1;
-                    if !self.entries.contains(entry) {
-                        self.entries.push(entry);
-                        self.show(&format!("differs as listed: {entry}"), request, said, port);
+                    match self.entries.iter_mut().find(|(met, _)| met == entry) {
+                        Some((_, count)) => *count += 1,
+                        None => {
+                            self.entries.push((*entry, 1));
+                            self.show(&format!("differs as listed: {entry}"), request, said, port);
+                        }
                     }
                 }
                 _ if self.differ - self.listed > SHOWN => {}

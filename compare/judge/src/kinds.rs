@@ -14,12 +14,30 @@ pub enum Right {
     Rust(fn(request: &str, rust: &str) -> Option<Listed>),
     /// The judge, where the Rust has no such part.
     Judge(fn(request: &str) -> String),
-    /// Both, and they must agree: the judge answers each request, the Rust all but those whose answer comes of a part that
-    /// it does not have.
+    /// Both, and they must agree, except where a difference is listed: the judge answers each request, the Rust all but those
+    /// whose answer comes of a part that it does not have.
     Both {
-        judge: fn(request: &str) -> String,
+        judge: fn(request: &str) -> Judged,
         port_only: fn(answer: &str) -> bool,
     },
+}
+
+/// What the judge answers, and the heading of the entry by which the Rust may say something else in the stead of the last part
+/// of the answer.
+pub struct Judged {
+    pub answer: String,
+    pub entry: Option<&'static str>,
+}
+
+impl Judged {
+    /// What is listed where the Rust answers so: up to the last part it must say the same.
+    fn listed(&self, rust: &[u8]) -> Option<Listed> {
+        let last = self.answer.rfind(" | ").map_or(0, |place| place + 3);
+        let same = rust.starts_with(&self.answer.as_bytes()[..last]);
+        self.entry
+            .filter(|_| same)
+            .map(|entry| (entry, self.answer.clone()))
+    }
 }
 
 /// What is said of a request beside the port's answer.
@@ -38,7 +56,12 @@ impl Right {
     pub fn said<'a>(&self, request: &str, rust: &'a [u8]) -> Said<'a> {
         let (judge, listed) = match self {
             Right::Rust(expected) => (None, expected(request, &String::from_utf8_lossy(rust))),
-            Right::Judge(judge) | Right::Both { judge, .. } => (Some(judge(request)), None),
+            Right::Judge(judge) => (Some(judge(request)), None),
+            Right::Both { judge, .. } => {
+                let judged = judge(request);
+                let listed = judged.listed(rust);
+                (Some(judged.answer), listed)
+            }
         };
         let counts = match (self, &judge) {
             (Right::Both { port_only, .. }, Some(answer)) => !port_only(answer),
@@ -121,4 +144,5 @@ kinds! {
     numbers
     tables
     alone
+    messages
 }

@@ -3,6 +3,7 @@
 
 mod compare;
 mod kinds;
+mod message;
 mod random;
 mod request;
 mod route;

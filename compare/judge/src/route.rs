@@ -1,4 +1,5 @@
-//! One header resolved alone, read plainly: all routes of a well-formed header, and the first refusal in any other.
+//! One header, alone or as the first part of a unit, read plainly: all routes of a well-formed header, and the first refusal in
+//! any other.
 
 use crate::table::{spellings, Table};
 use crate::text::LONGEST;
@@ -14,18 +15,18 @@ pub struct Found {
 
 const START_IS_NO_BRANCH: i32 = 7;
 const TOO_LONG: i32 = 9;
-const INVALID_CHARACTER: i32 = -101;
-const SYNTAX_ERROR: i32 = -102;
-const INVALID_SEPARATOR: i32 = -103;
+pub const INVALID_CHARACTER: i32 = -101;
+pub const SYNTAX_ERROR: i32 = -102;
+pub const INVALID_SEPARATOR: i32 = -103;
 const HEADER_ERROR: i32 = -110;
 const HEADER_SEPARATOR_ERROR: i32 = -111;
-const MNEMONIC_TOO_LONG: i32 = -112;
+pub const MNEMONIC_TOO_LONG: i32 = -112;
 const UNDEFINED_HEADER: i32 = -113;
-const SUFFIX_NOT_ALLOWED: i32 = -138;
+pub const SUFFIX_NOT_ALLOWED: i32 = -138;
 const INVALID_EXPRESSION: i32 = -171;
 
 /// So many bytes a mnemonic has at most, a star counted.
-const LONGEST_MNEMONIC: usize = 12;
+pub const LONGEST_MNEMONIC: usize = 12;
 
 const ROOT: usize = 0;
 
@@ -33,6 +34,17 @@ impl Table {
     /// What the text is as one header from that branch, or the number of its refusal: first the faults of the table, then
     /// the start, then the length, then the text.
     pub fn resolve(&self, start: u64, text: &[u8]) -> Result<Found, i32> {
+        let start = self.admitted(start, text)?;
+        let walked = self.alone(start, text);
+        if let Some(routed) = self.routed(start, text) {
+            assert_eq!(routed, walked, "{}", text.escape_ascii());
+            return routed;
+        }
+        walked
+    }
+
+    /// The branch to start from, where nothing is refused before the text is read.
+    pub fn admitted(&self, start: u64, text: &[u8]) -> Result<usize, i32> {
         if let Some(fault) = self.fault() {
             return Err(fault as i32);
         }
@@ -43,13 +55,12 @@ impl Table {
         if text.len() > LONGEST {
             return Err(TOO_LONG);
         }
-        let walked = self.walk(start, text);
-        if let Some(header) = Header::well_formed(text) {
-            let routed = self.by_routes(start, &header);
-            assert_eq!(routed, walked, "{}", text.escape_ascii());
-            return routed;
-        }
-        walked
+        Ok(start)
+    }
+
+    /// What the text is as a well-formed header from that branch. None where it is none.
+    pub fn routed(&self, start: usize, text: &[u8]) -> Option<Result<Found, i32>> {
+        Header::well_formed(text).map(|header| self.by_routes(start, &header))
     }
 }
 
@@ -96,7 +107,7 @@ fn is_mnemonic(word: &[u8]) -> bool {
     word.first().is_some_and(u8::is_ascii_alphabetic) && word.iter().all(goes_on)
 }
 
-fn goes_on(b: &u8) -> bool {
+pub fn goes_on(b: &u8) -> bool {
     b.is_ascii_alphanumeric() || *b == b'_'
 }
 
@@ -152,17 +163,27 @@ impl Table {
 
 /// Any header, token by token.
 impl Table {
-    /// The first refusal met, or what the header resolves to.
-    fn walk(&self, start: usize, text: &[u8]) -> Result<Found, i32> {
-        let mut tokens = Tokens {
-            text,
-            place: 0,
-            in_common: false,
-        };
+    /// The text as one header: behind it stands nothing.
+    fn alone(&self, start: usize, text: &[u8]) -> Result<Found, i32> {
+        let mut tokens = Tokens::new(text);
+        let first = tokens.next()?;
+        match self.header(start, &mut tokens, first)? {
+            (found, Token::End) => Ok(found),
+            _ => Err(SYNTAX_ERROR),
+        }
+    }
+
+    /// The first refusal met in a header, or what it resolves to and the token that ends it.
+    pub fn header<'a>(
+        &self,
+        start: usize,
+        tokens: &mut Tokens<'a>,
+        first: Token<'a>,
+    ) -> Result<(Found, Token<'a>), i32> {
         // The node that was spoken last, or the branch to begin at; and the branch that holds it, or that one.
         let (mut node, mut kept) = (start, start);
         let mut star = false;
-        let mut token = tokens.next()?;
+        let mut token = first;
         match token {
             Token::Colon => {
                 (node, kept) = (ROOT, ROOT);
@@ -199,14 +220,12 @@ impl Table {
         if query {
             token = tokens.next()?;
         }
-        match token {
-            Token::End => Ok(Found {
-                command: self.nodes[leaf].first_child,
-                query,
-                kept: if star { start } else { kept },
-            }),
-            _ => Err(SYNTAX_ERROR),
-        }
+        let found = Found {
+            command: self.nodes[leaf].first_child,
+            query,
+            kept: if star { start } else { kept },
+        };
+        Ok((found, token))
     }
 
     /// The node that the word spells and the branch that holds it: a child of the node, or of a default branch that is
@@ -238,7 +257,7 @@ impl Table {
 }
 
 /// What the token step gives in a header.
-enum Token<'a> {
+pub enum Token<'a> {
     Mnemonic(&'a [u8]),
     Colon,
     Query,
@@ -248,15 +267,24 @@ enum Token<'a> {
     End,
 }
 
-/// The tokens of a header. Behind `?`, a separator or an expression only whether there is another one counts.
-struct Tokens<'a> {
+/// The tokens of headers. Behind an expression nothing is read.
+pub struct Tokens<'a> {
     text: &'a [u8],
-    place: usize,
-    in_common: bool,
+    pub place: usize,
+    /// From a star on, up to the end of the unit.
+    pub in_common: bool,
 }
 
 impl<'a> Tokens<'a> {
-    fn next(&mut self) -> Result<Token<'a>, i32> {
+    pub fn new(text: &'a [u8]) -> Self {
+        Tokens {
+            text,
+            place: 0,
+            in_common: false,
+        }
+    }
+
+    pub fn next(&mut self) -> Result<Token<'a>, i32> {
         let rest = &self.text[self.place..];
         let next = rest.get(1);
         let Some(first) = rest.first() else {
@@ -279,12 +307,12 @@ impl<'a> Tokens<'a> {
             b':' => (Token::Colon, 1),
             b'?' if next.is_some_and(|b| !is_white(b) && *b != b';') => return Err(SYNTAX_ERROR),
             b'?' => (Token::Query, 1),
-            b';' => (Token::UnitSeparator, 1),
+            b';' => (Token::UnitSeparator, 1 + white(&rest[1..])),
             b',' => return Err(HEADER_SEPARATOR_ERROR),
             b'0'..=b'9' | b'+' | b'-' | b'.' | b'#' | b'"' | b'\'' => return Err(HEADER_ERROR),
             b'(' => (Token::Expression, expression(rest)?),
             128.. => return Err(INVALID_CHARACTER),
-            b if is_white(b) => (Token::HeaderSeparator, 1),
+            b if is_white(b) => (Token::HeaderSeparator, white(rest)),
             _ => return Err(SYNTAX_ERROR),
         };
         self.place += length;
@@ -292,21 +320,32 @@ impl<'a> Tokens<'a> {
     }
 }
 
-fn is_white(b: &u8) -> bool {
+pub fn is_white(b: &u8) -> bool {
     [9, 10, 12, 13, 32].contains(b)
 }
 
-/// The length of the expression that the text begins with. Behind it come white space, then the end, `,` or `;`.
-fn expression(text: &[u8]) -> Result<usize, i32> {
+/// How many bytes of white space the text begins with.
+pub fn white(text: &[u8]) -> usize {
+    text.iter().take_while(|b| is_white(b)).count()
+}
+
+/// The length of the expression that the text begins with, and of the white space behind it.
+pub fn expression(text: &[u8]) -> Result<usize, i32> {
     let behind = &text[1..];
     let end = behind
         .iter()
         .position(|b| b"\"';()".contains(b) || !b.is_ascii())
         .filter(|end| behind[*end] == b')')
         .ok_or(INVALID_EXPRESSION)?;
-    let mut follows = behind[end + 1..].iter().skip_while(|b| is_white(b));
-    match follows.next() {
-        None | Some(b',' | b';') => Ok(1 + end + 1),
-        Some(_) => Err(SUFFIX_NOT_ALLOWED),
+    followed(text, 1 + end + 1, SUFFIX_NOT_ALLOWED)
+}
+
+/// Behind a form of data of that length come white space, then the end, `,` or `;`; anything else is the number. The length
+/// with the white space.
+pub fn followed(text: &[u8], length: usize, number: i32) -> Result<usize, i32> {
+    let length = length + white(&text[length..]);
+    match text.get(length) {
+        None | Some(b',' | b';') => Ok(length),
+        Some(_) => Err(number),
     }
 }

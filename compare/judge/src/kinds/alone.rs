@@ -5,7 +5,7 @@ use std::ops::RangeInclusive;
 use std::sync::Arc;
 
 use super::tables::{damage, greatest};
-use super::{mixed, Cases, Right};
+use super::{mixed, Cases, Judged, Right};
 use crate::random::Random;
 use crate::request::{clear_table, hex, number, table, table_field, unhex};
 use crate::table::Table;
@@ -20,15 +20,17 @@ pub const RIGHT: Right = Right::Both {
 /// The Rust original keeps every table that it was given.
 pub const RESTART: Option<usize> = Some(100_000);
 
-fn answer(request: &str) -> String {
-    match asked(request).map(|(table, start, text)| table.resolve(start, &text)) {
+fn answer(request: &str) -> Judged {
+    let entry = None;
+    let answer = match asked(request).map(|(table, start, text)| table.resolve(start, &text)) {
         None => "request?".to_string(),
         Some(Err(number)) => format!("refused {number}"),
         Some(Ok(found)) => {
             let form = if found.query { "query" } else { "event" };
             format!("command {} {form} branch {}", found.command, found.kept)
         }
-    }
+    };
+    Judged { answer, entry }
 }
 
 fn asked(request: &str) -> Option<(Table, u64, Vec<u8>)> {
@@ -127,9 +129,9 @@ fn short() -> impl Iterator<Item = Case> + Send {
         .chain(commandcheck(&branches, || joined(&PIECES, 3..=3)))
 }
 
-type Texts = Box<dyn Iterator<Item = Vec<u8>> + Send>;
+pub type Texts = Box<dyn Iterator<Item = Vec<u8>> + Send>;
 
-type Make = fn() -> Texts;
+pub type Make = fn() -> Texts;
 
 /// Each text from each of the starts.
 fn each(
@@ -149,7 +151,7 @@ fn each(
 }
 
 /// All texts of so many pieces.
-fn joined(pieces: &'static [&'static [u8]], lengths: RangeInclusive<usize>) -> Texts {
+pub fn joined(pieces: &'static [&'static [u8]], lengths: RangeInclusive<usize>) -> Texts {
     let lists = lengths.flat_map(|length| one_of_each(vec![pieces.to_vec(); length]));
     Box::new(lists.map(|pieces| pieces.concat()))
 }
@@ -193,13 +195,13 @@ fn is_first(table: &Table) -> bool {
     })
 }
 
-fn branches(table: &Table) -> Vec<usize> {
+pub fn branches(table: &Table) -> Vec<usize> {
     let all = 0..table.nodes.len();
     all.filter(|i| table.nodes[*i].branch).collect()
 }
 
 /// One case in so many has a text of the greatest length.
-const LONGEST_ONE_IN: usize = 1_024;
+pub const LONGEST_ONE_IN: usize = 1_024;
 
 /// One case in so many has a table of the greatest size.
 const GREATEST_ONE_IN: usize = 8_192;
@@ -222,15 +224,19 @@ fn random(random: &mut Random, i: usize) -> Case {
         damage(random, &mut table);
     }
     if random.one_in(rare) {
-        let size = table.nodes.len();
-        let other = random.below(size + 1);
-        start = random.pick(&[other, other, other, size, size + 1, 4_096, 65_536, 1 << 32]);
+        start = any_start(random, table.nodes.len());
     }
     Case {
         table: table_field(&table).into(),
         start,
         text,
     }
+}
+
+/// A node, or what is none in a table of that size.
+pub fn any_start(random: &mut Random, size: usize) -> usize {
+    let other = random.below(size + 1);
+    random.pick(&[other, other, other, size, size + 1, 4_096, 65_536, 1 << 32])
 }
 
 /// A good header with a fault or two. Two in five have none.
@@ -253,7 +259,7 @@ fn made(random: &mut Random, i: usize) -> Case {
     }
 }
 
-fn any_table(random: &mut Random, i: usize) -> Table {
+pub fn any_table(random: &mut Random, i: usize) -> Table {
     if i % GREATEST_ONE_IN == 0 {
         let size = random.pick(&[4_096, 4_096, 4_096, 4_097]);
         return greatest(random, size);
@@ -304,11 +310,11 @@ fn routed(random: &mut Random, table: &Table) -> (usize, Vec<u8>) {
 }
 
 /// Bytes of every kind that a header tells apart.
-const BYTES: &[u8] = b"Ab1_*:?; \n,\"#(\x00\xc8";
+pub const BYTES: &[u8] = b"Ab1_*:?; \n,\"#(\x00\xc8";
 
 const POOLS: [&[u8]; 5] = [BYTES, &ALL, b"AB12:", b"A:?\n ", b"*(1) ,;\""];
 
-fn any_text(random: &mut Random) -> Vec<u8> {
+pub fn any_text(random: &mut Random) -> Vec<u8> {
     let pool = random.pick(&POOLS);
     let length = random.below(10);
     random_text(random, pool, length)
@@ -326,7 +332,7 @@ fn any_words(random: &mut Random, table: &Table) -> Vec<u8> {
 }
 
 /// The header with one fault, or what looks like one.
-fn faulty(random: &mut Random, mut text: Vec<u8>) -> Vec<u8> {
+pub fn faulty(random: &mut Random, mut text: Vec<u8>) -> Vec<u8> {
     let place = random.below(text.len() + 1);
     let colons = (0..text.len()).filter(|i| text[*i] == b':');
     let colons: Vec<_> = colons.collect();

@@ -215,7 +215,7 @@ fn header(random: &mut Random) -> Vec<u8> {
     text
 }
 
-fn data(random: &mut Random) -> Vec<u8> {
+pub fn data(random: &mut Random) -> Vec<u8> {
     list(random, 4, item, |random| {
         [&white(random), &b","[..], &white(random)].concat()
     })
@@ -226,7 +226,7 @@ fn item(random: &mut Random) -> Vec<u8> {
 }
 
 /// Seldom a byte that is no white space is among it.
-fn white(random: &mut Random) -> Vec<u8> {
+pub fn white(random: &mut Random) -> Vec<u8> {
     let length = random.pick(&[0, 0, 0, 1, 1, 3]);
     let mut text = random_text(random, WHITE, length);
     if random.one_in(128) {
@@ -292,7 +292,7 @@ fn block(random: &mut Random) -> Vec<u8> {
 }
 
 /// A block up to the end of the text, where one newline in eight is missing.
-fn endless_block(random: &mut Random) -> Vec<u8> {
+pub fn endless_block(random: &mut Random) -> Vec<u8> {
     let length = random.below(5);
     let mut text = [b"#0", &random_text(random, BYTES, length)[..]].concat();
     if !random.one_in(8) {

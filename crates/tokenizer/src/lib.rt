@@ -65,22 +65,22 @@ pub fn next(s: &[u8], state: State) -> Step
     let b = s[at];
     let k = kind::kind(b);
     match k {
-        kind::NEWLINE => return newline(s, at + 1, state),
-        kind::BLANK => return blank(s, at, state),
-        kind::STAR => return common(s, at, state),
-        kind::COLON => return colon(s, at + 1, state),
-        kind::QUESTION => return question(s, at + 1, state),
-        kind::SEMICOLON => return semicolon(s, at + 1),
-        kind::COMMA => return comma(s, at + 1, state),
-        kind::SMALL => return word(s, at, state),
-        kind::CAPITAL => return word(s, at, state),
-        kind::PARENTHESIS => return expression(s, at + 1, state),
-        kind::OTHER => return refused(s, state, ErrorCode::SyntaxError),
-        kind::UNDERSCORE => return refused(s, state, ErrorCode::SyntaxError),
-        kind::BEYOND => return refused(s, state, ErrorCode::InvalidCharacter),
-        kind::HASH => return hash(s, at + 1, state),
-        kind::QUOTE => return string(s, at + 1, state, b),
-        _ => return number(s, at, state),
+        kind::NEWLINE => newline(s, at + 1, state),
+        kind::BLANK => blank(s, at, state),
+        kind::STAR => common(s, at, state),
+        kind::COLON => colon(s, at + 1, state),
+        kind::QUESTION => question(s, at + 1, state),
+        kind::SEMICOLON => semicolon(s, at + 1),
+        kind::COMMA => comma(s, at + 1, state),
+        kind::SMALL => word(s, at, state),
+        kind::CAPITAL => word(s, at, state),
+        kind::PARENTHESIS => expression(s, at + 1, state),
+        kind::OTHER => refused(s, state, ErrorCode::SyntaxError),
+        kind::UNDERSCORE => refused(s, state, ErrorCode::SyntaxError),
+        kind::BEYOND => refused(s, state, ErrorCode::InvalidCharacter),
+        kind::HASH => hash(s, at + 1, state),
+        kind::QUOTE => string(s, at + 1, state, b),
+        _ => number(s, at, state),
     }
 }
 

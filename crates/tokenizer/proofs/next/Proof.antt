@@ -20,20 +20,11 @@ add-newline c = search steps
 newline-requires : tie.Need-newline-requires
 newline-requires c κs = search steps
 
-returns-2 : tie.Need-returns-2
-returns-2 c = search steps
-
 blank-requires : tie.Need-blank-requires
 blank-requires c κs = search steps
 
-returns-3 : tie.Need-returns-3
-returns-3 c = search steps
-
 common-requires : tie.Need-common-requires
 common-requires c κs = search steps
-
-returns-4 : tie.Need-returns-4
-returns-4 c = search steps
 
 add-colon : tie.Need-add-colon
 add-colon c = search steps
@@ -41,17 +32,11 @@ add-colon c = search steps
 colon-requires : tie.Need-colon-requires
 colon-requires c κs = search steps
 
-returns-5 : tie.Need-returns-5
-returns-5 c = search steps
-
 add-question : tie.Need-add-question
 add-question c = search steps
 
 question-requires : tie.Need-question-requires
 question-requires c κs = search steps
-
-returns-6 : tie.Need-returns-6
-returns-6 c = search steps
 
 add-semicolon : tie.Need-add-semicolon
 add-semicolon c = search steps
@@ -59,29 +44,17 @@ add-semicolon c = search steps
 semicolon-requires : tie.Need-semicolon-requires
 semicolon-requires c κs = search steps
 
-returns-7 : tie.Need-returns-7
-returns-7 c = search steps
-
 add-comma : tie.Need-add-comma
 add-comma c = search steps
 
 comma-requires : tie.Need-comma-requires
 comma-requires c κs = search steps
 
-returns-8 : tie.Need-returns-8
-returns-8 c = search steps
-
 word-requires : tie.Need-word-requires
 word-requires c κs = search steps
 
-returns-9 : tie.Need-returns-9
-returns-9 c = search steps
-
 word-requires-2 : tie.Need-word-requires-2
 word-requires-2 c κs = search steps
-
-returns-10 : tie.Need-returns-10
-returns-10 c = search steps
 
 add-expression : tie.Need-add-expression
 add-expression c = search steps
@@ -89,26 +62,14 @@ add-expression c = search steps
 expression-requires : tie.Need-expression-requires
 expression-requires c κs = search steps
 
-returns-11 : tie.Need-returns-11
-returns-11 c = search steps
-
 refused-requires : tie.Need-refused-requires
 refused-requires c κs = search steps
-
-returns-12 : tie.Need-returns-12
-returns-12 c = search steps
 
 refused-requires-2 : tie.Need-refused-requires-2
 refused-requires-2 c κs = search steps
 
-returns-13 : tie.Need-returns-13
-returns-13 c = search steps
-
 refused-requires-3 : tie.Need-refused-requires-3
 refused-requires-3 c κs = search steps
-
-returns-14 : tie.Need-returns-14
-returns-14 c = search steps
 
 add-hash : tie.Need-add-hash
 add-hash c = search steps
@@ -116,20 +77,59 @@ add-hash c = search steps
 hash-requires : tie.Need-hash-requires
 hash-requires c κs = search steps
 
-returns-15 : tie.Need-returns-15
-returns-15 c = search steps
-
 add-string : tie.Need-add-string
 add-string c = search steps
 
 string-requires : tie.Need-string-requires
 string-requires c κs = search steps
 
-returns-16 : tie.Need-returns-16
-returns-16 c = search steps
-
 number-requires : tie.Need-number-requires
 number-requires c κs = search steps
+
+returns-2 : tie.Need-returns-2
+returns-2 c = search steps
+
+returns-3 : tie.Need-returns-3
+returns-3 c = search steps
+
+returns-4 : tie.Need-returns-4
+returns-4 c = search steps
+
+returns-5 : tie.Need-returns-5
+returns-5 c = search steps
+
+returns-6 : tie.Need-returns-6
+returns-6 c = search steps
+
+returns-7 : tie.Need-returns-7
+returns-7 c = search steps
+
+returns-8 : tie.Need-returns-8
+returns-8 c = search steps
+
+returns-9 : tie.Need-returns-9
+returns-9 c = search steps
+
+returns-10 : tie.Need-returns-10
+returns-10 c = search steps
+
+returns-11 : tie.Need-returns-11
+returns-11 c = search steps
+
+returns-12 : tie.Need-returns-12
+returns-12 c = search steps
+
+returns-13 : tie.Need-returns-13
+returns-13 c = search steps
+
+returns-14 : tie.Need-returns-14
+returns-14 c = search steps
+
+returns-15 : tie.Need-returns-15
+returns-15 c = search steps
+
+returns-16 : tie.Need-returns-16
+returns-16 c = search steps
 
 returns-17 : tie.Need-returns-17
 returns-17 c = search steps
@@ -144,41 +144,41 @@ next-spec =
     kind-requires
     add-newline
     newline-requires
-    returns-2
     blank-requires
-    returns-3
     common-requires
-    returns-4
     add-colon
     colon-requires
-    returns-5
     add-question
     question-requires
-    returns-6
     add-semicolon
     semicolon-requires
-    returns-7
     add-comma
     comma-requires
-    returns-8
     word-requires
-    returns-9
     word-requires-2
-    returns-10
     add-expression
     expression-requires
-    returns-11
     refused-requires
-    returns-12
     refused-requires-2
-    returns-13
     refused-requires-3
-    returns-14
     add-hash
     hash-requires
-    returns-15
     add-string
     string-requires
-    returns-16
     number-requires
+    returns-2
+    returns-3
+    returns-4
+    returns-5
+    returns-6
+    returns-7
+    returns-8
+    returns-9
+    returns-10
+    returns-11
+    returns-12
+    returns-13
+    returns-14
+    returns-15
+    returns-16
     returns-17)

@@ -14,7 +14,8 @@ use Rattle.record.specs.Word.{wordOf, recordIn}
 use Rattle.record.specs.Claims.{Fits}
 use Rattle.record.specs.declared.Record.{Record}
 use Rattle.record.proofs.Claims as records
-use Rattle.table.specs.Fault.{too-many, node-count, Accepted}
+use Rattle.layout.specs.Layout.{too-many}
+use Rattle.table.specs.Fault.{node-count, Accepted}
 use Rattle.table.proofs.Claims as tables
 use Rattle.tokenizer.specs.Step.{ofMessage}
 use Rattle.tokenizer.specs.declared.State.{State}

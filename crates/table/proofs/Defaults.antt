@@ -19,7 +19,7 @@ use Rattle.node.proofs.Laws.{block-fits′}
 use Rattle.table.specs.Fault.{TwoDefaults}
 use Rattle.table.specs.Parts.{TwoDefaultsIn, NextDefault, OneDefault, DefaultBranch, Blocks}
 use Rattle.util.proofs.Before.{Before, none-yet, one-more}
-use Rattle.table.proofs.Blocks.{in-table}
+use Rattle.layout.proofs.Blocks.{in-table}
 use Rattle.table.proofs.Shape.{block-in}
 
 -- the next default node

@@ -10,8 +10,8 @@ use native.Mathlib.Omega.{arith}
 use lib.ListN.{length}
 use Rattle.kind.proofs.Tests.{less-or-not}
 use Rattle.node.specs.Tree.{branch, first, count, Child, Near, child, under}
-use Rattle.table.specs.Fault.{behind, ChildBlocks, not-behind, not-to-end, too-early}
-use Rattle.table.proofs.Blocks.{in-table}
+use Rattle.layout.specs.Layout.{behind, ChildBlocks, not-behind, not-to-end, too-early}
+use Rattle.layout.proofs.Blocks.{in-table}
 
 equal : (a b : ℕ) → ((a ≡ b → ⊥) → ⊥) → a ≡ b
 equal a b h = go (ℕ-discrete a b)

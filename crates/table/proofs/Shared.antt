@@ -19,11 +19,11 @@ use Rattle.name.proofs.Heads.{name-filled, initials}
 use Rattle.node.specs.Word.{nameLength, nameStart, firstChild, childCount, nameIn}
 use Rattle.node.specs.Tree.{branch, first, count, nameOf, Child, Near, child, under}
 use Rattle.node.proofs.Laws.{block-fits′}
-use Rattle.table.specs.Fault.{BadName, outside, no-byte}
+use Rattle.layout.specs.Layout.{BadName, outside, no-byte}
 use Rattle.table.specs.Parts.{Block, OneDefault, DefaultBranch, Below, SharesIn, ChildrenShare, BlocksShare, NearShares, SharesAt, children, below, Ready}
 use Rattle.util.proofs.Before.{Before, none-yet, one-more}
-use Rattle.table.proofs.Blocks.{in-table}
-use Rattle.table.proofs.NodeNames.{name-of}
+use Rattle.layout.proofs.Blocks.{in-table}
+use Rattle.layout.proofs.NodeNames.{name-of}
 use Rattle.table.proofs.Shape.{after, block-in, near-branch}
 
 -- the name of a node of a block

@@ -15,11 +15,12 @@ use Rattle.name.specs.Share.{shares, Share}
 use Rattle.name.proofs.Shares.{sharing}
 use Rattle.node.specs.Word.{isBranch}
 use Rattle.node.specs.Tree.{branch, default, nameOf, Child, Near, child, under}
-use Rattle.table.specs.Fault.{ChildBlocks, SharedSpelling}
+use Rattle.layout.specs.Layout.{ChildBlocks}
+use Rattle.table.specs.Fault.{SharedSpelling}
 use Rattle.table.specs.Parts.{SharesAt, children, below, Ready}
 use Rattle.util.proofs.Before.{Before, none-yet, one-more}
-use Rattle.table.proofs.Blocks.{in-table}
-use Rattle.table.proofs.NodeNames.{name-of}
+use Rattle.layout.proofs.Blocks.{in-table}
+use Rattle.layout.proofs.NodeNames.{name-of}
 use Rattle.table.proofs.Shape.{child-in, elsewhere, near-in}
 
 flip : {a b : List ℕ} → Share a b → Share b a

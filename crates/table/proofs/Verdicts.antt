@@ -9,7 +9,8 @@ use Rattle.error.specs.declared.ErrorCode.{ErrorCode}
 use Rattle.error.specs.declared.ErrorCode.the-variants as code
 use Rattle.util.specs.Decides.{Decides}
 use Rattle.util.proofs.Decided.{it-holds, it-fails}
-use Rattle.table.specs.Fault.{NodeCount, NodeFields, ChildBlocks, NodeName, TwoDefaults, SharedSpelling, Fault, node-count, node-fields, child-blocks, node-name, two-defaults, shared-spelling, Verdict, accepts, refuses}
+use Rattle.layout.specs.Layout.{NodeCount, NodeFields, ChildBlocks, NodeName}
+use Rattle.table.specs.Fault.{TwoDefaults, SharedSpelling, Fault, node-count, node-fields, child-blocks, node-name, two-defaults, shared-spelling, Verdict, accepts, refuses}
 use Rattle.table.specs.Parts.{Blocks, Ready}
 use Rattle.table.specs.declared.Checked.the-variants as checked
 

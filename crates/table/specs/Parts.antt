@@ -2,21 +2,12 @@
 use Prim.Native.Nat.{ℕ, _+_, _≤_, _<_}
 use mathlib.Core.Path.{_≡_}
 use mathlib.Core.List.{List}
-use mathlib.Core.Bool.{Bool, true, false, not, _&&_, _||_}
-use lib.Dec.{eqb}
+use mathlib.Core.Bool.{true, false}
 use lib.ListN.{length}
 use Rattle.name.specs.Share.{shares}
-use Rattle.node.specs.Word.{isBranch, isDefault, nameLength, nameStart, childCount, spareBits}
 use Rattle.node.specs.Tree.{branch, default, first, count, nameOf, Child, Near}
-use Rattle.table.specs.Fault.{ChildBlocks, NodeName, TwoDefaults}
-
--- the word of a root: a branch, not default, its name fields 0
-unfoldable pub isRoot : ℕ → Bool
-isRoot w = isBranch w && (not (isDefault w) && (eqb (nameLength w) 0 && eqb (nameStart w) 0))
-
--- no spare bit is set, and a leaf has no children
-unfoldable pub hasFields : ℕ → Bool
-hasFields w = eqb (spareBits w) 0 && (isBranch w || eqb (childCount w) 0)
+use Rattle.layout.specs.Layout.{ChildBlocks, NodeName}
+use Rattle.table.specs.Fault.{TwoDefaults}
 
 -- two default nodes among those from a place up to an end
 pub record TwoDefaultsIn (t : List ℕ) (from to : ℕ) : Type 0 where

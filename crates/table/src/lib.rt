@@ -1,13 +1,13 @@
 // The check of a node table: its nodes, a lent slice of words, and the lent text of their names.
-ghost use Prim.Native.Nat.{_<_, _≤_};
+ghost use Prim.Native.Nat.{_≤_};
 ghost use mathlib.Core.Path.{_≡_};
 ghost use mathlib.Core.Bool.{true};
 ghost use lib.ListN.{length};
 ghost use Rattle.util.specs.Decides.{Decides};
 ghost use Rattle.mnemonic.specs.Spelling.{Name};
-ghost use Rattle.node.specs.Tree.{branch, Child};
-ghost use Rattle.table.specs.Fault.{NodeCount, NodeFields, ChildBlocks, BadName, NodeName, TwoDefaults, SharedSpelling, Verdict};
-ghost use Rattle.table.specs.Parts.{isRoot, hasFields, TwoDefaultsIn, NextDefault, OneDefault, DefaultBranch, Blocks, Ready, Block, SharesIn, ChildrenShare, BlocksShare, NearShares, SharesAt};
+ghost use Rattle.node.specs.Tree.{branch};
+ghost use Rattle.table.specs.Fault.{TwoDefaults, SharedSpelling, Verdict};
+ghost use Rattle.table.specs.Parts.{TwoDefaultsIn, NextDefault, OneDefault, DefaultBranch, Blocks, Ready, Block, SharesIn, ChildrenShare, BlocksShare, NearShares, SharesAt};
 use error::ErrorCode;
 
 // What the check says of a table: that it is accepted, or its smallest fault.
@@ -20,16 +20,16 @@ pub enum Checked {
 pub fn check(nodes: &[u64], names: &[u8]) -> Checked
     ensures { λ r. ⌜ Verdict (now (nodes .entry)) (now (names .entry)) r ⌝ }
 {
-    if has_wrong_count(nodes) {
+    if layout::has_wrong_count(nodes) {
         return Checked::Fault(ErrorCode::NodeCount);
     }
-    if has_wrong_fields(nodes) {
+    if layout::has_wrong_fields(nodes) {
         return Checked::Fault(ErrorCode::NodeFields);
     }
-    if has_wrong_blocks(nodes) {
+    if layout::has_wrong_blocks(nodes) {
         return Checked::Fault(ErrorCode::ChildBlocks);
     }
-    if has_wrong_name(nodes, names) {
+    if layout::has_wrong_name(nodes, names) {
         return Checked::Fault(ErrorCode::NodeName);
     }
     if has_two_defaults(nodes) {
@@ -39,152 +39,6 @@ pub fn check(nodes: &[u64], names: &[u8]) -> Checked
         return Checked::Fault(ErrorCode::SharedSpelling);
     }
     Checked::Accepted
-}
-
-// Fault 1: no node, or more than 4,096.
-fn has_wrong_count(nodes: &[u64]) -> bool
-    ensures { λ r. ⌜ Decides (NodeCount (now (nodes .entry))) r ⌝ }
-{
-    if nodes.len() == 0 {
-        return true;
-    }
-    4096 < nodes.len()
-}
-
-// Fault 2: fields that a root or a node may not have.
-fn has_wrong_fields(nodes: &[u64]) -> bool
-    ensures { λ r. ⌜ Decides (NodeFields (now (nodes .entry))) r ⌝ }
-{
-    if nodes.len() == 0 {
-        return true;
-    }
-    if !is_root(nodes[0]) {
-        return true;
-    }
-    let mut k = 0;
-    while k < nodes.len() {
-        if !has_fields(nodes[k]) {
-            return true;
-        }
-        k += 1;
-    }
-    false
-}
-
-// A root is a branch that is not default and has no name.
-fn is_root(root: u64) -> bool
-    ensures { λ r. ⌜ r ≡ isRoot root ⌝ }
-{
-    if !node::is_branch(root) {
-        return false;
-    }
-    if node::is_default(root) {
-        return false;
-    }
-    if node::name_length(root) != 0 {
-        return false;
-    }
-    node::name_start(root) == 0
-}
-
-// A node has no spare bit set, and a leaf no children.
-fn has_fields(word: u64) -> bool
-    ensures { λ r. ⌜ r ≡ hasFields word ⌝ }
-{
-    if node::spare_bits(word) != 0 {
-        return false;
-    }
-    if node::is_branch(word) {
-        return true;
-    }
-    node::child_count(word) == 0
-}
-
-// Fault 3: child blocks that do not follow each other from node 1 to the end, or one that starts at or before its branch.
-fn has_wrong_blocks(nodes: &[u64]) -> bool
-    ensures { λ r. ⌜ Decides (ChildBlocks (now (nodes .entry))) r ⌝ }
-{
-    let mut behind = 1;
-    let mut k = 0;
-    while k < nodes.len() {
-        let word = nodes[k];
-        if node::is_branch(word) {
-            let first = node::first_child(word);
-            if first != behind {
-                return true;
-            }
-            if first <= k {
-                return true;
-            }
-            behind = first + node::child_count(word);
-            k += 1;
-        } else {
-            k += 1;
-        }
-    }
-    behind != nodes.len()
-}
-
-// Fault 4: a bad name of a node that is not the root.
-fn has_wrong_name(nodes: &[u64], names: &[u8]) -> bool
-    ensures { λ r. ⌜ Decides (NodeName (now (nodes .entry)) (now (names .entry))) r ⌝ }
-{
-    let mut k = 1;
-    while k < nodes.len() {
-        if has_bad_name(nodes, names, k) {
-            return true;
-        }
-        k += 1;
-    }
-    false
-}
-
-// Whether the name of a node lies outside the text, has not 1 to 12 bytes, is no name, or has a star that it may not have.
-fn has_bad_name(nodes: &[u64], names: &[u8], k: usize) -> bool
-    requires { ⌜ k < length (now nodes) ⌝ }
-    ensures { λ r. ⌜ Decides (BadName (now (nodes .entry)) (now (names .entry)) k) r ⌝ }
-{
-    let word = nodes[k];
-    let length = node::name_length(word);
-    if length == 0 {
-        return true;
-    }
-    if 12 < length {
-        return true;
-    }
-    if names.len() < node::name_start(word) + length {
-        return true;
-    }
-    let name = node::name(names, word);
-    if !name::is_name(name) {
-        return true;
-    }
-    if !util::stands(name, 0, b'*') {
-        return false;
-    }
-    if node::is_branch(word) {
-        return true;
-    }
-    if node::is_default(word) {
-        return true;
-    }
-    !is_under_root(nodes, k)
-}
-
-// Whether a node is a child of the root.
-fn is_under_root(nodes: &[u64], k: usize) -> bool
-    requires { ⌜ k < length (now nodes) ⌝ }
-    ensures { λ r. ⌜ Decides (Child (now (nodes .entry)) 0 k) r ⌝ }
-{
-    let root = nodes[0];
-    if !node::is_branch(root) {
-        return false;
-    }
-    let first = node::first_child(root);
-    if k < first {
-        return false;
-    }
-    k < first + node::child_count(root)
 }
 
 // Fault 5: two default children in a branch.

@@ -22,8 +22,9 @@ use Rattle.name.proofs.Names.{starred′, unstarred′}
 use Rattle.name.proofs.Claims as name
 use Rattle.node.specs.Word.{isBranch, isDefault, nameLength, nameStart, firstChild, childCount, spareBits, nameIn}
 use Rattle.node.specs.Tree.{branch, default, first, count, nameOf, Child}
-use Rattle.table.specs.Fault.{NodeCount, no-node, too-many, NodeFields, spare-bits, root-no-branch, root-default, root-name-length, root-name-start, leaf-children, behind, ChildBlocks, not-behind, not-to-end, too-early, BadName, outside, no-byte, too-long, no-name, star-branch, star-default, star-below, Fault, TwoDefaults, SharedSpelling, node-count, node-fields, child-blocks, node-name, two-defaults, shared-spelling, Accepted}
-use Rattle.table.proofs.Blocks.{in-table}
+use Rattle.layout.specs.Layout.{NodeCount, no-node, too-many, NodeFields, spare-bits, root-no-branch, root-default, root-name-length, root-name-start, leaf-children, behind, ChildBlocks, not-behind, not-to-end, too-early, BadName, outside, no-byte, too-long, no-name, star-branch, star-default, star-below}
+use Rattle.table.specs.Fault.{Fault, TwoDefaults, SharedSpelling, node-count, node-fields, child-blocks, node-name, two-defaults, shared-spelling, Accepted}
+use Rattle.layout.proofs.Blocks.{in-table}
 use Rattle.table.proofs.Shape.{child-in, near-in}
 use Rattle.tree.specs.Worked.{nodes, names}
 

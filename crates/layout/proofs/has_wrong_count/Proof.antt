@@ -1,6 +1,6 @@
-use Rattle.table.proofs.Fields.{count-laws}
-use Rattle.table.proofs.has_wrong_count.Statement.{statement}
-use Rattle.table.proofs.has_wrong_count.Tie as tie
+use Rattle.layout.proofs.Fields.{count-laws}
+use Rattle.layout.proofs.has_wrong_count.Statement.{statement}
+use Rattle.layout.proofs.has_wrong_count.Tie as tie
 
 returns : tie.Need-returns
 returns c = search count-laws

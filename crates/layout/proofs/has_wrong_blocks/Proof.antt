@@ -1,8 +1,8 @@
 use Prim.Native.Nat.{_-_}
 use lib.ListN.{length}
-use Rattle.table.proofs.Blocks.{Follows, blocks-laws}
-use Rattle.table.proofs.has_wrong_blocks.Statement.{statement}
-use Rattle.table.proofs.has_wrong_blocks.Tie as tie
+use Rattle.layout.proofs.Blocks.{Follows, blocks-laws}
+use Rattle.layout.proofs.has_wrong_blocks.Statement.{statement}
+use Rattle.layout.proofs.has_wrong_blocks.Tie as tie
 
 abbrev Inv-loop : tie.InvT-loop
 Inv-loop nodes behind₀ k₀ behind k = Follows nodes k behind

@@ -16,7 +16,7 @@ use Rattle.util.proofs.Decided.{by-both}
 use Rattle.node.specs.Word.{isBranch, firstChild, childCount}
 use Rattle.node.specs.Tree.{branch, first}
 use Rattle.node.proofs.Laws.{block-fits′, past-table}
-use Rattle.table.specs.Fault.{behind, ChildBlocks, not-behind, not-to-end, too-early}
+use Rattle.layout.specs.Layout.{behind, ChildBlocks, not-behind, not-to-end, too-early}
 use Rattle.util.proofs.Before.{Before, none-yet, one-more}
 
 -- a branch lies in the table

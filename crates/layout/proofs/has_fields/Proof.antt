@@ -1,6 +1,6 @@
-use Rattle.table.proofs.Fields.{word-laws}
-use Rattle.table.proofs.has_fields.Statement.{statement}
-use Rattle.table.proofs.has_fields.Tie as tie
+use Rattle.layout.proofs.Fields.{word-laws}
+use Rattle.layout.proofs.has_fields.Statement.{statement}
+use Rattle.layout.proofs.has_fields.Tie as tie
 
 spare-bits-requires : tie.Need-spare-bits-requires
 spare-bits-requires c κs = search word-laws

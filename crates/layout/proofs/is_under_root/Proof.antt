@@ -1,6 +1,6 @@
-use Rattle.table.proofs.NodeNames.{under-laws}
-use Rattle.table.proofs.is_under_root.Statement.{statement}
-use Rattle.table.proofs.is_under_root.Tie as tie
+use Rattle.layout.proofs.NodeNames.{under-laws}
+use Rattle.layout.proofs.is_under_root.Statement.{statement}
+use Rattle.layout.proofs.is_under_root.Tie as tie
 
 shared-slice-read-root : tie.Need-shared-slice-read-root
 shared-slice-read-root c = search under-laws

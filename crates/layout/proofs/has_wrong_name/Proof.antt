@@ -1,8 +1,8 @@
 use Prim.Native.Nat.{_-_}
 use lib.ListN.{length}
-use Rattle.table.proofs.NodeNames.{Named, names-laws}
-use Rattle.table.proofs.has_wrong_name.Statement.{statement}
-use Rattle.table.proofs.has_wrong_name.Tie as tie
+use Rattle.layout.proofs.NodeNames.{Named, names-laws}
+use Rattle.layout.proofs.has_wrong_name.Statement.{statement}
+use Rattle.layout.proofs.has_wrong_name.Tie as tie
 
 abbrev Inv-loop : tie.InvT-loop
 Inv-loop nodes names k₀ k = Named nodes names k

@@ -17,7 +17,7 @@ use Rattle.name.proofs.Names.{surely}
 use Rattle.node.specs.Word.{isBranch, isDefault, nameLength, nameStart, firstChild, childCount, nameIn}
 use Rattle.node.specs.Tree.{nameOf, Child}
 use Rattle.node.proofs.Laws.{end-fits′, block-fits′}
-use Rattle.table.specs.Fault.{BadName, outside, no-byte, too-long, no-name, star-branch, star-default, star-below, NodeName}
+use Rattle.layout.specs.Layout.{BadName, outside, no-byte, too-long, no-name, star-branch, star-default, star-below, NodeName}
 use Rattle.util.proofs.Before.{Before, none-yet, one-more}
 
 -- under the root

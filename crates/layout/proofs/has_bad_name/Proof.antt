@@ -1,6 +1,6 @@
-use Rattle.table.proofs.NodeNames.{name-laws}
-use Rattle.table.proofs.has_bad_name.Statement.{statement}
-use Rattle.table.proofs.has_bad_name.Tie as tie
+use Rattle.layout.proofs.NodeNames.{name-laws}
+use Rattle.layout.proofs.has_bad_name.Statement.{statement}
+use Rattle.layout.proofs.has_bad_name.Tie as tie
 
 mul-word : tie.Need-mul-word
 mul-word c = search name-laws

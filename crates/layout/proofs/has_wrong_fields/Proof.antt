@@ -1,8 +1,8 @@
 use Prim.Native.Nat.{_-_}
 use lib.ListN.{length}
-use Rattle.table.proofs.Fields.{Fitting, fields-laws}
-use Rattle.table.proofs.has_wrong_fields.Statement.{statement}
-use Rattle.table.proofs.has_wrong_fields.Tie as tie
+use Rattle.layout.proofs.Fields.{Fitting, fields-laws}
+use Rattle.layout.proofs.has_wrong_fields.Statement.{statement}
+use Rattle.layout.proofs.has_wrong_fields.Tie as tie
 
 abbrev Inv-loop : tie.InvT-loop
 Inv-loop nodes k₀ k = Fitting nodes k

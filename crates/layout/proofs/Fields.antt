@@ -12,8 +12,8 @@ use Rattle.kind.proofs.Tests.{and-left, and-right, clash}
 use Rattle.util.specs.Decides.{Decides, holds, fails}
 use Rattle.util.proofs.Decided.{by-both}
 use Rattle.node.specs.Word.{isBranch, isDefault, nameLength, nameStart, childCount, spareBits}
-use Rattle.table.specs.Fault.{NodeCount, no-node, too-many, NodeFields, spare-bits, root-no-branch, root-default, root-name-length, root-name-start, leaf-children}
-use Rattle.table.specs.Parts.{isRoot, hasFields}
+use Rattle.layout.specs.Layout.{NodeCount, no-node, too-many, NodeFields, spare-bits, root-no-branch, root-default, root-name-length, root-name-start, leaf-children}
+use Rattle.layout.specs.Parts.{isRoot, hasFields}
 use Rattle.util.proofs.Before.{Before, none-yet, one-more}
 
 module _ (t : List ℕ) where

@@ -1,6 +1,6 @@
-use Rattle.table.proofs.Fields.{root-laws}
-use Rattle.table.proofs.is_root.Statement.{statement}
-use Rattle.table.proofs.is_root.Tie as tie
+use Rattle.layout.proofs.Fields.{root-laws}
+use Rattle.layout.proofs.is_root.Statement.{statement}
+use Rattle.layout.proofs.is_root.Tie as tie
 
 is-branch-requires : tie.Need-is-branch-requires
 is-branch-requires c κs = search root-laws

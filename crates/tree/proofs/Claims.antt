@@ -26,13 +26,17 @@ use Rattle.header.specs.Seen.{seenAt}
 use Rattle.header.specs.Header.{isCommon, keeping, Begins}
 use Rattle.header.specs.declared.Stop.the-variants as end
 use Rattle.header.specs.declared.Ahead.the-variants as ahead
+use Rattle.header.specs.declared.Stop.{Stop}
 use Rattle.header.specs.declared.Header.{Header}
+use Rattle.header.specs.declared.Header.the-variants as found
 use Rattle.header.proofs.Claims as header
 use Rattle.header.proofs.Once.{Began, began-at, at-root, starred, plain}
 use Rattle.tree.specs.Route.{Leads}
 use Rattle.tree.specs.Alone.{closing, Resolves, no-branch, too-long, one-header, ResolvesAlone}
 use Rattle.tree.specs.WellFormed.{Mnemonic, Joined, last, before, WellFormed, Common, Tokens, next, Shown}
-use Rattle.tree.specs.Claims.{Answers, withBranch, Claims}
+use Rattle.tree.specs.Heard.{Spoken}
+use Rattle.tree.specs.Heard as spoken
+use Rattle.tree.specs.Claims.{Routed, Answers, withBranch, Claims}
 use Rattle.tree.specs.declared.Resolved.{Resolved}
 use Rattle.tree.specs.declared.Resolved.the-variants.{Command, Refused}
 use Rattle.tree.proofs.Unique.{unique}
@@ -94,70 +98,138 @@ module _ (t names : List ℕ) (b : ℕ) (s : List ℕ) (words : List (List ℕ))
   heard-so false f g = heard-plain f g
   heard-so true f g = let z = reads s true words query f in by-tokens (z .1) (z .2) g
 
--- the answer to the whole text, told by routes
-data Final (t names : List ℕ) (b : ℕ) (words : List (List ℕ)) (query : Bool) : Resolved → Type 0 where
-  leads : {c kept : ℕ} → Leads t names b words c kept → Final t names b words query (Command c query kept)
-  fails : ((c kept : ℕ) → Leads t names b words c kept → ⊥) → Final t names b words query (Refused UndefinedHeader)
+-- what an answer is, told by routes
+data Final {A : Type 0} (found : ℕ → ℕ → A) (no : A) (t names : List ℕ) (b : ℕ) (words : List (List ℕ)) : A → Type 0 where
+  leads : {c kept : ℕ} → Leads t names b words c kept → Final found no t names b words (found c kept)
+  fails : ((c kept : ℕ) → Leads t names b words c kept → ⊥) → Final found no t names b words no
 
-module _ (t names : List ℕ) (words : List (List ℕ)) (query : Bool) where
-  final-of : {b : ℕ} {r : Header} {st : State} → Outcome t names query end.Text st b b words r → Final t names b words query (closing r)
-  final-of (routed {stages} {leaf} {kept} x) = leads (record { stages = stages; leaf = leaf; route = x; command = refl })
-  final-of (lost l) = fails (λ c kept x. l (x .stages) (x .leaf) kept (x .route))
+-- a way to say an answer that tells what was said
+record Telling {A : Type 0} (found : ℕ → ℕ → A) (no : A) : Type 0 where
+  isFound : A → Bool
+  commandIn : A → ℕ
+  keptIn : A → ℕ
+  is-found : (c kept : ℕ) → isFound (found c kept) ≡ true
+  is-not : isFound no ≡ false
+  command-told : (c kept : ℕ) → commandIn (found c kept) ≡ c
+  kept-told : (c kept : ℕ) → keptIn (found c kept) ≡ kept
 
-  module _ (b : ℕ) (s : List ℕ) (ok : Tree t names) (m : branch t b ≡ true) (rooted : Bool) (f : WellFormed s rooted words query) where
-    final : {r : Resolved} → Resolves t names b s r → Final t names (cond rooted 0 b) words query r
-    final (no-branch l) = clash m l
-    final (too-long l h) = absurd (omega (arith, f .fits))
-    final (one-header l h g) = let z = heard-so t names b s words query ok m rooted f g in final-of (z .outcome)
-
--- what tells the answers apart
-
-abbrev isCommand : Resolved → Bool
-isCommand (Command c q kept) = true
-isCommand (Refused e) = false
-
-abbrev commandIn : Resolved → ℕ
-commandIn (Command c q kept) = c
-commandIn (Refused e) = 0
-
-abbrev keptIn : Resolved → ℕ
-keptIn (Command c q kept) = kept
-keptIn (Refused e) = 0
-
-module _ (t names : List ℕ) (b : ℕ) (words : List (List ℕ)) (query : Bool) (ok : Tree t names) where
+module _ {A : Type 0} (found : ℕ → ℕ → A) (no : A) (tell : Telling found no) (t names : List ℕ) (b : ℕ) (words : List (List ℕ)) (ok : Tree t names) where
   one-lead : {c c′ kept kept′ : ℕ} → Leads t names b words c kept → Leads t names b words c′ kept′ → (c ≡ c′) × (kept ≡ kept′)
   one-lead x y =
       let z = unique t names ok (x .route) (y .route) in
       (sym (x .command) ∙ ap (λ (k : ℕ). commandNumber (getD t k 0)) (z .1) ∙ y .command, z .2)
 
-  is-lead : {r : Resolved} → Final t names b words query r → (c kept : ℕ) → r ≡ Command c query kept → Leads t names b words c kept
-  is-lead (leads x) c kept e = rw (ap commandIn e, ap keptIn e) at x
-  is-lead (fails n) c kept e = absurd (false≢true (ap isCommand e))
+  not-both-ways : {B : Type 0} {c kept : ℕ} → found c kept ≡ no → B
+  not-both-ways {c = c} {kept} e = clash (tell .is-found c kept) (ap (tell .isFound) e ∙ tell .is-not)
 
-  gets : {r : Resolved} → Final t names b words query r → (c kept : ℕ) → Leads t names b words c kept → r ≡ Command c query kept
+  same-lead : {c c′ kept kept′ : ℕ} → found c kept ≡ found c′ kept′ → Leads t names b words c kept → Leads t names b words c′ kept′
+  same-lead {c} {c′} {kept} {kept′} e x =
+      let p : c ≡ c′ = sym (tell .command-told c kept) ∙ ap (tell .commandIn) e ∙ tell .command-told c′ kept′ in
+      let q : kept ≡ kept′ = sym (tell .kept-told c kept) ∙ ap (tell .keptIn) e ∙ tell .kept-told c′ kept′ in
+      rw (p, q) at x
+
+  is-lead : {r : A} → Final found no t names b words r → (c kept : ℕ) → r ≡ found c kept → Leads t names b words c kept
+  is-lead (leads x) c kept e = same-lead e x
+  is-lead (fails n) c kept e = not-both-ways (sym e)
+
+  gets : {r : A} → Final found no t names b words r → (c kept : ℕ) → Leads t names b words c kept → r ≡ found c kept
   gets (leads x) c kept y = let z = one-lead x y in rw (z .0, z .1)
   gets (fails n) c kept y = absurd (n c kept y)
 
-  no-lead : {r : Resolved} → Final t names b words query r → r ≡ Refused UndefinedHeader → (c kept : ℕ) → Leads t names b words c kept → ⊥
-  no-lead (leads x) e = absurd (false≢true (sym (ap isCommand e)))
+  no-lead : {r : A} → Final found no t names b words r → r ≡ no → (c kept : ℕ) → Leads t names b words c kept → ⊥
+  no-lead (leads x) e = not-both-ways e
   no-lead (fails n) e = n
 
-  is-undefined : {r : Resolved} → Final t names b words query r → ((c kept : ℕ) → Leads t names b words c kept → ⊥) → r ≡ Refused UndefinedHeader
+  is-undefined : {r : A} → Final found no t names b words r → ((c kept : ℕ) → Leads t names b words c kept → ⊥) → r ≡ no
   is-undefined (leads {c} {kept} x) n = absurd (n c kept x)
   is-undefined (fails _) n = refl
 
-  one-of : {r : Resolved} → Final t names b words query r → ((c : ℕ) × (kept : ℕ) × (r ≡ Command c query kept)) ⊎ (r ≡ Refused UndefinedHeader)
+  one-of : {r : A} → Final found no t names b words r → ((c : ℕ) × (kept : ℕ) × (r ≡ found c kept)) ⊎ (r ≡ no)
   one-of (leads {c} {kept} x) = inl (c, kept, refl)
   one-of (fails n) = inr refl
 
-  answers : {r : Resolved} → Final t names b words query r → Answers t names b words query r
-  answers x =
+  routed-so : {r : A} → Final found no t names b words r → Routed found no t names b words r
+  routed-so x =
       record {
         command = λ c kept. (is-lead x c kept, gets x c kept);
         one-route = λ stages stages′ leaf leaf′ kept kept′ y z. unique t names ok y z;
         undefined = (no-lead x, is-undefined x);
         either = one-of x;
       }
+
+-- a header's answer, and that of resolution alone, tell what they say
+
+header-tells : (query : Bool) (end : Stop) (st : State) → Telling (λ c kept. found.Found c query kept end st) (found.Refused UndefinedHeader)
+header-tells query end st = record { isFound = isFound; commandIn = commandIn; keptIn = keptIn; is-found = λ c kept. refl; is-not = refl; command-told = λ c kept. refl; kept-told = λ c kept. refl }
+  where
+    isFound : Header → Bool
+    isFound (found.Found c q kept x at) = true
+    isFound (found.Refused e) = false
+
+    commandIn : Header → ℕ
+    commandIn (found.Found c q kept x at) = c
+    commandIn (found.Refused e) = 0
+
+    keptIn : Header → ℕ
+    keptIn (found.Found c q kept x at) = kept
+    keptIn (found.Refused e) = 0
+
+alone-tells : (query : Bool) → Telling (λ c kept. Command c query kept) (Refused UndefinedHeader)
+alone-tells query = record { isFound = isFound; commandIn = commandIn; keptIn = keptIn; is-found = λ c kept. refl; is-not = refl; command-told = λ c kept. refl; kept-told = λ c kept. refl }
+  where
+    isFound : Resolved → Bool
+    isFound (Command c q kept) = true
+    isFound (Refused e) = false
+
+    commandIn : Resolved → ℕ
+    commandIn (Command c q kept) = c
+    commandIn (Refused e) = 0
+
+    keptIn : Resolved → ℕ
+    keptIn (Command c q kept) = kept
+    keptIn (Refused e) = 0
+
+-- a header that is heard, and the whole text that it is
+module _ (t names : List ℕ) (words : List (List ℕ)) (query : Bool) where
+  of-header : {b : ℕ} {r : Header} {x : Stop} {st : State} → Outcome t names query x st b b words r
+      → Final (λ c kept. found.Found c query kept x st) (found.Refused UndefinedHeader) t names b words r
+  of-header (routed {stages} {leaf} {kept} x) = leads (record { stages = stages; leaf = leaf; route = x; command = refl })
+  of-header (lost l) = fails (λ c kept x. l (x .stages) (x .leaf) kept (x .route))
+
+  abbrev Alone : ℕ → Resolved → Type 0
+  Alone b = Final (λ c kept. Command c query kept) (Refused UndefinedHeader) t names b words
+
+  final-of : {b : ℕ} {r : Header} {st : State} → Outcome t names query end.Text st b b words r → Alone b (closing r)
+  final-of (routed {stages} {leaf} {kept} x) = leads (record { stages = stages; leaf = leaf; route = x; command = refl })
+  final-of (lost l) = fails (λ c kept x. l (x .stages) (x .leaf) kept (x .route))
+
+  module _ (b : ℕ) (s : List ℕ) (ok : Tree t names) (m : branch t b ≡ true) (rooted : Bool) (f : WellFormed s rooted words query) where
+    final : {r : Resolved} → Resolves t names b s r → Alone (cond rooted 0 b) r
+    final (no-branch l) = clash m l
+    final (too-long l h) = absurd (omega (arith, f .fits))
+    final (one-header l h g) = let z = heard-so t names b s words query ok m rooted f g in final-of (z .outcome)
+
+answers : (t names : List ℕ) (b : ℕ) (words : List (List ℕ)) (query : Bool) → Tree t names → {r : Resolved}
+    → Final (λ c kept. Command c query kept) (Refused UndefinedHeader) t names b words r → Answers t names b words query r
+answers t names b words query ok = routed-so _ _ (alone-tells query) t names b words ok
+
+anywhere : (t names : List ℕ) (b : ℕ) (s : List ℕ) (at : State) (rooted : Bool) (words : List (List ℕ)) (query : Bool) (x : Stop) (behind : State) (r : Header)
+    → Accepted t names → branch t b ≡ true → Spoken s x behind words query at rooted → Begins t names s b (seenAt s at) r
+    → Routed (λ c kept. found.Found c query kept x behind) (found.Refused UndefinedHeader) t names (cond rooted 0 b) words r
+anywhere t names b s at rooted words query x behind r a m y g =
+    let ok = table.claims .accepted t names a in
+    routed-so _ _ (header-tells query x behind) t names (cond rooted 0 b) words ok (of-header t names words query (go ok y))
+  where
+    go : Tree t names → {rooted : Bool} → Spoken s x behind words query at rooted → Outcome t names query x behind (cond rooted 0 b) (cond rooted 0 b) words r
+    go ok (spoken.from-branch {v} e f h) = plainly (began-at m e g)
+      where
+        plainly : {q : Header} → Began t names s b (seenAt s at) (ahead.Word v) q → Outcome t names query x behind b b words q
+        plainly (starred c z) = clash c f
+        plainly (plain c z) = heard ok h z
+    go ok (spoken.from-root e h) = rooted-so (began-at m e g)
+      where
+        rooted-so : {q : Header} → Began t names s b (seenAt s at) ahead.Colon q → Outcome t names query x behind 0 0 words q
+        rooted-so (at-root z) = heard ok h z
 
 demand : (t names : List ℕ) (b : ℕ) (s : List ℕ) (rooted : Bool) (words : List (List ℕ)) (query : Bool) (r : Resolved)
     → Accepted t names → branch t b ≡ true → WellFormed s rooted words query → ResolvesAlone t names b s r → Answers t names (cond rooted 0 b) words query r
@@ -220,6 +292,7 @@ pub claims : Claims
 claims =
     record {
       demand = demand;
+      anywhere = anywhere;
       common = λ t names b s word query r a m f x. common-so t names b s word query (table.claims .accepted t names a) m f (past-check a x);
       reads = reads;
       unchecked = λ t names b s. unchecked;

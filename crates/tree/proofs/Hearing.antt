@@ -26,16 +26,8 @@ use Rattle.header.specs.declared.Turn.{Turn}
 use Rattle.header.specs.declared.Turn.the-variants as turn
 use Rattle.header.specs.declared.Header.{Header}
 use Rattle.header.specs.declared.Header.the-variants as header
+use Rattle.tree.specs.Heard.{Hears, stop, asked, word}
 use Rattle.tree.proofs.Outcomes.{Outcome, at-leaf, past-leaf, no-default, unspelled, by-default, by-word, at-end}
-
--- the words from what is seen on, each with a colon before it or not, and then the end of the header: its form, what ends it, and the
--- state behind that
-pub data Hears (s : List ℕ) (end : Stop) (st : State) : List (List ℕ) → Bool → Seen → Type 0 where
-  stop : {seen : Seen} → seen .ahead ≡ ahead.Stop end → seen .state ≡ st → Hears s end st [] false seen
-  asked : {seen : Seen} → seen .ahead ≡ ahead.Query → (seenAt s (seen .state)) .ahead ≡ ahead.Stop end → (seenAt s (seen .state)) .state ≡ st
-      → Hears s end st [] true seen
-  word : {seen : Seen} {v : View} {at : State} {w : List ℕ} {words : List (List ℕ)} {q : Bool} → turnOf s seen ≡ turn.Word v at → partOf s v ≡ w
-      → Hears s end st words q (seenAt s at) → Hears s end st (w ∷ words) q seen
 
 -- what tells the turns apart
 

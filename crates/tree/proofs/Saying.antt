@@ -15,7 +15,7 @@ use Rattle.header.specs.declared.Stop.the-variants as end
 use Rattle.header.specs.declared.Ahead.the-variants as ahead
 use Rattle.header.specs.declared.Seen.{Seen}
 use Rattle.tree.specs.WellFormed.{Tokens, no-more, next, Shown, event, query, then}
-use Rattle.tree.proofs.Hearing.{Hears, stop, asked, word}
+use Rattle.tree.specs.Heard.{Hears, stop, asked, word}
 
 -- what a step's answer is to a header
 module _ (s : List ℕ) (st : State) where

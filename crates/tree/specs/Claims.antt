@@ -10,23 +10,35 @@ use Rattle.table.specs.Fault.{Accepted}
 use Rattle.token.specs.declared.Token.{Token}
 use Rattle.token.specs.declared.Token.the-variants.{HeaderMnemonicSeparator}
 use Rattle.tokenizer.specs.Step.{ofMessage}
+use Rattle.tokenizer.specs.declared.State.{State}
+use Rattle.header.specs.Seen.{seenAt}
+use Rattle.header.specs.Header.{Begins}
+use Rattle.header.specs.declared.Stop.{Stop}
+use Rattle.header.specs.declared.Header.{Header}
+use Rattle.header.specs.declared.Header.the-variants as header
 use Rattle.tree.specs.Route.{Stage, Route, Leads}
 use Rattle.tree.specs.Alone.{Resolves, ResolvesAlone}
 use Rattle.tree.specs.WellFormed.{WellFormed, Common, Tokens, Shown}
+use Rattle.tree.specs.Heard.{Spoken}
 use Rattle.tree.specs.declared.Resolved.{Resolved}
 use Rattle.tree.specs.declared.Resolved.the-variants.{Command, Refused}
 
--- The answer r to a header of these words, in the form of a query or not, from the branch b.
-pub record Answers (t names : List ℕ) (b : ℕ) (words : List (List ℕ)) (query : Bool) (r : Resolved) : Type 0 where
+-- The answer r to a header of these words from the branch b, where `found c kept` is how a command c and a branch kept are
+-- answered, and `no` is how -113 is.
+pub record Routed {A : Type 0} (found : ℕ → ℕ → A) (no : A) (t names : List ℕ) (b : ℕ) (words : List (List ℕ)) (r : A) : Type 0 where
   -- it gets a command exactly when some route spells it, and the command and the branch kept are that route's
-  pub command : (c kept : ℕ) → (r ≡ Command c query kept) ↔ Leads t names b words c kept
+  pub command : (c kept : ℕ) → (r ≡ found c kept) ↔ Leads t names b words c kept
   -- there is one such route only: the same nodes, and the same of them spoken
   pub one-route : (stages stages′ : List Stage) (leaf leaf′ kept kept′ : ℕ) → Route t names b b words stages leaf kept → Route t names b b words stages′ leaf′ kept′
       → (stages ≡ stages′) × (leaf ≡ leaf′) × (kept ≡ kept′)
   -- it is -113 exactly when there is no route
-  pub undefined : (r ≡ Refused UndefinedHeader) ↔ ((c kept : ℕ) → Leads t names b words c kept → ⊥)
+  pub undefined : (r ≡ no) ↔ ((c kept : ℕ) → Leads t names b words c kept → ⊥)
   -- and it is one or the other
-  pub either : ((c : ℕ) × (kept : ℕ) × (r ≡ Command c query kept)) ⊎ (r ≡ Refused UndefinedHeader)
+  pub either : ((c : ℕ) × (kept : ℕ) × (r ≡ found c kept)) ⊎ (r ≡ no)
+
+-- resolution alone, of a header in the form of a query or not
+abbrev pub Answers : List ℕ → List ℕ → ℕ → List (List ℕ) → Bool → Resolved → Type 0
+Answers t names b words query r = Routed (λ c kept. Command c query kept) (Refused UndefinedHeader) t names b words r
 
 -- the same answer, with the branch b kept
 abbrev pub withBranch : ℕ → Resolved → Resolved
@@ -39,6 +51,10 @@ pub record Claims : Type 0 where
   pub demand : (t names : List ℕ) (b : ℕ) (s : List ℕ) (rooted : Bool) (words : List (List ℕ)) (query : Bool) (r : Resolved)
       → Accepted t names → branch t b ≡ true → WellFormed s rooted words query → ResolvesAlone t names b s r
       → Answers t names (cond rooted 0 b) words query r
+  -- The same at any place of a message: of a header that is heard as these words, and is ended by `end` with the state `behind` it.
+  pub anywhere : (t names : List ℕ) (b : ℕ) (s : List ℕ) (at : State) (rooted : Bool) (words : List (List ℕ)) (query : Bool) (end : Stop) (behind : State) (r : Header)
+      → Accepted t names → branch t b ≡ true → Spoken s end behind words query at rooted → Begins t names s b (seenAt s at) r
+      → Routed (λ c kept. header.Found c query kept end behind) (header.Refused UndefinedHeader) t names (cond rooted 0 b) words r
   -- the header of a common command is answered as from the root, and the branch stays
   pub common : (t names : List ℕ) (b : ℕ) (s word : List ℕ) (query : Bool) (r : Resolved)
       → Accepted t names → branch t b ≡ true → Common s word query → ResolvesAlone t names b s r

@@ -1,11 +1,9 @@
 -- A header alone, and the message that it is.
-use Prim.Native.Nat.{ℕ}
+use Prim.Native.Nat.{ℕ, _≤_}
 use mathlib.Core.Path.{_≡_, refl, sym, ap, subst, _∙_}
 use mathlib.Core.List.{List, [], _∷_}
 use mathlib.Core.Bool.{Bool, true, false, false≢true}
-use native.Mathlib.Omega.{arith}
-use lib.Signed.{mag}
-use Rattle.error.specs.Code.{codeOf}
+use lib.ListN.{length}
 use Rattle.error.specs.declared.ErrorCode.{ErrorCode}
 use Rattle.error.specs.declared.ErrorCode.the-variants as refusal
 use Rattle.kind.proofs.Tests.{clash}
@@ -28,6 +26,7 @@ use Rattle.tree.specs.Alone as alone
 use Rattle.tree.specs.declared.Resolved.{Resolved}
 use Rattle.tree.specs.declared.Resolved.the-variants as resolved
 use Rattle.unit.specs.Unit.{at-end, recordOf, no-command, whole}
+use Rattle.message.specs.Message as message
 use Rattle.message.specs.Message.{isEnd, Ending, complete, refused, none, stopped, next, Message, text, CheckedMessage, fault, sound}
 
 -- a header that is not refused as one that is missing
@@ -65,9 +64,6 @@ codeIn (resolved.Refused e) = e
 no-command-here : {A : Type 0} {e : ErrorCode} {c kept : ℕ} {query : Bool} → resolved.Refused e ≡ resolved.Command c query kept → A
 no-command-here q = absurd (false≢true (ap isCommand q))
 
-undefined-no-syntax : refusal.UndefinedHeader ≡ refusal.SyntaxError → ⊥
-undefined-no-syntax q = let z = ap (λ e. mag (codeOf e)) q in omega (arith, z)
-
 module _ {t names : List ℕ} {b : ℕ} {s : List ℕ} where
   pub single : {c kept : ℕ} {query : Bool} (r : Resolved) → Resolves t names b s r → r ≡ resolved.Command c query kept → Message t names b s (recordOf c query kept 0 ∷ []) complete
   single r (alone.no-branch l) q = no-command-here q
@@ -82,16 +78,21 @@ module _ {t names : List ℕ} {b : ℕ} {s : List ℕ} where
           subst (λ (u : Record). Message t names b s (u ∷ []) complete) (ap recordOfAnswer o)
           (text m l (next (begun m y tt) (whole y at-end) (none (at-end-still s st (headers.claims .over _ _ _ _ _ _ _ _ _ y)))))
 
-  pub unknown : (r : Resolved) → Resolves t names b s r → r ≡ resolved.Refused refusal.UndefinedHeader → Message t names b s [] (refused refusal.UndefinedHeader)
-  unknown r (alone.no-branch l) q = let z = ap (λ (x : Resolved). mag (codeOf (codeIn x))) q in absurd (omega (arith, z))
-  unknown r (alone.too-long m l) q = let z = ap (λ (x : Resolved). mag (codeOf (codeIn x))) q in absurd (omega (arith, z))
-  unknown r (one-header {r = h} m l g) q = go h g q
+  pub refused-alike : {e : ErrorCode} → (e ≡ refusal.SyntaxError → ⊥) → (r : Resolved) → Resolves t names b s r → r ≡ resolved.Refused e → Message t names b s [] (refused e)
+  refused-alike {e} other r x q = go x q
     where
-      go : (h : Header) → Begins t names s b (seenAt s ofMessage) h → closing h ≡ resolved.Refused refusal.UndefinedHeader
-          → Message t names b s [] (refused refusal.UndefinedHeader)
-      go (header.Refused e) y o =
-          let same = ap codeIn o in
-          subst (λ (x : ErrorCode). Message t names b s [] (refused x)) same (text m l (stopped (begun m y (λ p. undefined-no-syntax (sym same ∙ p))) (no-command y)))
-      go (header.Found c′ query′ kept′ stop.Separator st) y o = absurd (undefined-no-syntax (sym (ap codeIn o)))
-      go (header.Found c′ query′ kept′ stop.Unit st) y o = absurd (undefined-no-syntax (sym (ap codeIn o)))
-      go (header.Found c′ query′ kept′ stop.Text st) y o = absurd (false≢true (ap isCommand (sym o)))
+      -- the same refusal
+      as-told : {c : ErrorCode} → resolved.Refused c ≡ resolved.Refused e → Message t names b s [] (refused c) → Message t names b s [] (refused e)
+      as-told o y = subst (λ (c : ErrorCode). Message t names b s [] (refused c)) (ap codeIn o) y
+
+      by-header : branch t b ≡ true → length s ≤ 65535 → (h : Header) → Begins t names s b (seenAt s ofMessage) h → closing h ≡ resolved.Refused e
+          → Message t names b s [] (refused e)
+      by-header m l (header.Refused c) y o = as-told o (text m l (stopped (begun m y (λ p. other (sym (ap codeIn o) ∙ p))) (no-command y)))
+      by-header m l (header.Found c query kept stop.Separator st) y o = absurd (other (sym (ap codeIn o)))
+      by-header m l (header.Found c query kept stop.Unit st) y o = absurd (other (sym (ap codeIn o)))
+      by-header m l (header.Found c query kept stop.Text st) y o = absurd (false≢true (ap isCommand (sym o)))
+
+      go : {r : Resolved} → Resolves t names b s r → r ≡ resolved.Refused e → Message t names b s [] (refused e)
+      go (alone.no-branch l) o = as-told o (message.no-branch l)
+      go (alone.too-long m l) o = as-told o (message.too-long m l)
+      go (one-header {r = h} m l g) o = by-header m l h g o

@@ -5,4 +5,5 @@ pub mod Entries
 pub mod Once
 pub mod Fields
 pub mod Alone
+pub mod Slots
 pub mod Claims

@@ -1,4 +1,5 @@
--- A program message: message units with `;` between them, IEEE 488.2 7.3 and 7.4.1, up to its terminator (7.5); and its records.
+-- A program message: message units with `;` between them, IEEE 488.2 7.3 and 7.4.1, up to the end of the text; and its records. The token
+-- step takes a newline that is the last byte for the terminator (7.5), and another one for white space or a fault.
 use Prim.Native.Nat.{ℕ, _≤_, _<_}
 use mathlib.Core.Path.{_≡_}
 use mathlib.Core.List.{List, [], _∷_, map}
@@ -43,9 +44,9 @@ pub data Ending : Type 0 where
   refused : ErrorCode → Ending
 
 -- Units t names s b st us e: from the state st on, and from the branch b, the units us are read well, one behind the other, and then comes
--- e. The branch that a unit keeps is the start of the next.
+-- e. The branch that a unit keeps is the start of the next (IEEE 488.2 appendix A.1, SCPI-99 6.2.4).
 pub data Units (t names s : List ℕ) : ℕ → State → List Record → Ending → Type 0 where
-  -- the text ends: at once, behind a unit, or behind one `;`
+  -- the text ends: at once, behind a unit, or behind one `;`, which the standard has only between units
   none : {b : ℕ} {st : State} → isEnd ((seenAt s st) .ahead) ≡ true → Units t names s b st [] complete
   stopped : {b : ℕ} {st : State} {e : ErrorCode} → isEnd ((seenAt s st) .ahead) ≡ false → Reads t names s b (seenAt s st) (unit.Refused e)
       → Units t names s b st [] (refused e)

@@ -1,6 +1,6 @@
 -- The claims.
-use Prim.Native.Nat.{ℕ, _+_, _%_, _<_, _^_}
-use mathlib.Core.Path.{_≡_, refl}
+use Prim.Native.Nat.{ℕ, zero, suc, _+_, _*_, _/_, _%_, _<_, _^_}
+use mathlib.Core.Path.{_≡_, refl, _∙_}
 use mathlib.Core.Bool.{Bool, true, false}
 use lib.Dec.{eqb}
 use native.Mathlib.Omega.{arith}
@@ -38,6 +38,38 @@ again u f =
     let q = bit-fits (u .query) in
     rw (command-again _ _ _ _ (f .command) q (f .branch) (f .items), query-again _ _ _ _ (f .command) q (f .branch) (f .items), branch-again _ _ _ _ (f .command) q (f .branch) (f .items), items-again _ _ _ _ (f .command) q (f .branch) (f .items), bit-told (u .query))
 
+-- the bit that a test told is the bit
+bit-back : (n : ℕ) → n < 2 → bit (eqb n 1) ≡ n
+bit-back zero l = refl
+bit-back (suc zero) l = refl
+bit-back (suc (suc n)) l = absurd (omega arith)
+
+-- a word, field by field from below
+module _ (w : ℕ) where
+  from-items : w / 2 ^ 15 * 2 ^ 15 ≡ placed 16 15 (field 16 15 w) + w / 2 ^ 31 * 2 ^ 31
+  from-items = omega arith
+
+  from-branch : w / 2 ^ 31 * 2 ^ 31 ≡ placed 16 31 (field 16 31 w) + w / 2 ^ 47 * 2 ^ 47
+  from-branch = omega arith
+
+  from-query : w / 2 ^ 47 * 2 ^ 47 ≡ placed 1 47 (field 1 47 w) + w / 2 ^ 48 * 2 ^ 48
+  from-query = omega arith
+
+  from-command : w < 2 ^ 64 → w / 2 ^ 48 * 2 ^ 48 ≡ placed 16 48 (field 16 48 w)
+  from-command l = omega (arith, l)
+
+  from-below : w % 2 ^ 15 ≡ 0 → w / 2 ^ 15 * 2 ^ 15 ≡ w
+  from-below z = omega (arith, z)
+
+sums : (a b c d e f g w : ℕ) → e ≡ d + f → f ≡ c + g → g ≡ b + a → e ≡ w → a + b + c + d ≡ w
+sums a b c d e f g w h i j k = omega (arith, h, i, j, k)
+
+same-word : (w : ℕ) → w < 2 ^ 64 → w % 2 ^ 15 ≡ 0 → wordOf (recordIn w) ≡ w
+unfolding recordIn wordOf
+same-word w l z =
+    rw (bit-back (field 1 47 w) (omega arith))
+    (sums _ _ _ _ _ _ _ w (from-items w) (from-branch w) (from-query w ∙ rw (from-command w l)) (from-below w z))
+
 zero-below : (u : Record) → wordOf u % 2 ^ 15 ≡ 0
 unfolding wordOf
 zero-below u = omega arith
@@ -47,4 +79,4 @@ unfolding wordOf
 word-fits u = omega arith
 
 pub claims : Claims
-claims = record { again = again; zero-below = zero-below; word-fits = word-fits }
+claims = record { again = again; same-word = same-word; zero-below = zero-below; word-fits = word-fits }

@@ -13,6 +13,8 @@ pub record Fits (u : Record) : Type 0 where
 pub record Claims : Type 0 where
   -- a record that fits is found again in its word
   pub again : (u : Record) → Fits u → recordIn (wordOf u) ≡ u
+  -- and a word whose last 15 bits are zero in its record
+  pub same-word : (w : ℕ) → w < 2 ^ 64 → w % 2 ^ 15 ≡ 0 → wordOf (recordIn w) ≡ w
   -- the last 15 bits are zero
   pub zero-below : (u : Record) → wordOf u % 2 ^ 15 ≡ 0
   -- and the word has 64 bits

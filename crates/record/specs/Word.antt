@@ -5,14 +5,14 @@ use mathlib.Core.Bool.{Bool, true, false}
 use lib.Dec.{eqb}
 use Rattle.record.specs.declared.Record.{Record}
 
--- a value in so many bits of a word, with so many below them; and what stands there
+-- a value in so many bits of a word, with so many below them, where of a larger value the last bits stand; and what stands there
 abbrev pub placed : ℕ → ℕ → ℕ → ℕ
 placed width below v = v % 2 ^ width * 2 ^ below
 
 abbrev pub field : ℕ → ℕ → ℕ → ℕ
 field width below w = w / 2 ^ below % 2 ^ width
 
--- IEEE 488.2 7.6.2: a query has the bit set, and another command does not
+-- the bit is set for a query (IEEE 488.2 7.6.2), and clear for a command (7.6.1)
 abbrev pub bit : Bool → ℕ
 bit true = 1
 bit false = 0

@@ -1,4 +1,4 @@
--- The tokens of a program message as the data of a unit meet them, IEEE 488.2 7.4.
+-- The tokens of a program message as the data of a unit meet them, IEEE 488.2 7.4.2 and 7.7.
 use Prim.Native.Nat.{ℕ}
 use mathlib.Core.List.{List}
 use Rattle.error.specs.declared.ErrorCode.the-variants.{SyntaxError}
@@ -12,8 +12,9 @@ use Rattle.unit.specs.declared.Entry.{Entry}
 use Rattle.unit.specs.declared.Entry.the-variants as entry
 use Rattle.unit.specs.declared.Met.{Met}
 
--- What a token is among the data. IEEE 488.2 7.7 names seven forms of an item; a unit separator (7.4.1) ends the data. What belongs to a
--- header has no place there, and is -102; of these only a mnemonic with a star comes out of the token step behind a header.
+-- What a token is among the data. An item is program data of any form of IEEE 488.2 7.7, a number with a suffix or without; a unit
+-- separator (7.4.1) ends the data. What belongs to a header has no place there. Behind the header separator the token step refuses it with a
+-- number of its own, but for a mnemonic with a star, which is -102 here.
 abbrev pub tokenEntry : Token → Entry
 tokenEntry (CharacterProgramData v) = entry.Item
 tokenEntry (DecimalNumericProgramData v) = entry.Item

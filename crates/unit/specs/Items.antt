@@ -16,7 +16,8 @@ pub data Joined (s : List ℕ) : ℕ → State → Data → Type 0 where
   -- a comma and one more item
   more : {n : ℕ} {st behind next : State} {r : Data} → metAt s st ≡ metWith entry.Comma behind → metAt s behind ≡ metWith entry.Item next
       → Joined s (n + 1) next r → Joined s n st r
-  -- a comma without an item behind it is -102, and so is an item without a comma before it
+  -- A comma without an item behind it is -102, and so is an item without a comma before it. The token step itself refuses `,,` and `,;`, and
+  -- lets no item touch another, so that of these three only a comma at the end of the text is met.
   missing : {n : ℕ} {st behind next : State} → metAt s st ≡ metWith entry.Comma behind → metAt s behind ≡ metWith entry.End next → Joined s n st (found.Refused SyntaxError)
   doubled : {n : ℕ} {st behind next : State} → metAt s st ≡ metWith entry.Comma behind → metAt s behind ≡ metWith entry.Comma next → Joined s n st (found.Refused SyntaxError)
   touching : {n : ℕ} {st next : State} → metAt s st ≡ metWith entry.Item next → Joined s n st (found.Refused SyntaxError)

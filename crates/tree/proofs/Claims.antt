@@ -18,6 +18,7 @@ use Rattle.node.specs.Tree.{branch}
 use Rattle.table.specs.Fault.{Accepted}
 use Rattle.table.specs.Claims.{Tree}
 use Rattle.table.proofs.Claims as table
+use Rattle.token.specs.declared.View.{View}
 use Rattle.token.specs.declared.Token.{Token}
 use Rattle.token.specs.declared.Token.the-variants.{HeaderMnemonicSeparator}
 use Rattle.tokenizer.specs.Step.{ofMessage}
@@ -34,7 +35,7 @@ use Rattle.header.proofs.Once.{Began, began-at, at-root, starred, plain}
 use Rattle.tree.specs.Route.{Leads}
 use Rattle.tree.specs.Alone.{closing, Resolves, no-branch, too-long, one-header, ResolvesAlone}
 use Rattle.tree.specs.WellFormed.{Mnemonic, Joined, last, before, WellFormed, Common, Tokens, next, Shown}
-use Rattle.tree.specs.Heard.{Spoken}
+use Rattle.tree.specs.Heard.{Hears, Spoken}
 use Rattle.tree.specs.Heard as spoken
 use Rattle.tree.specs.Claims.{Routed, Answers, withBranch, Claims}
 use Rattle.tree.specs.declared.Resolved.{Resolved}
@@ -231,6 +232,20 @@ anywhere t names b s at rooted words query x behind r a m y g =
         rooted-so : {q : Header} → Began t names s b (seenAt s at) ahead.Colon q → Outcome t names query x behind 0 0 words q
         rooted-so (at-root z) = heard ok h z
 
+common-anywhere : (t names : List ℕ) (b : ℕ) (s : List ℕ) (at : State) (v : View) (words : List (List ℕ)) (query : Bool) (x : Stop) (behind : State) (r : Header)
+    → Accepted t names → branch t b ≡ true → (seenAt s at) .ahead ≡ ahead.Word v → isCommon s v ≡ true → Hears s x behind words query (seenAt s at)
+    → Begins t names s b (seenAt s at) r
+    → (a : Header) × Routed (λ c kept. found.Found c query kept x behind) (found.Refused UndefinedHeader) t names 0 words a × (r ≡ keeping b a)
+common-anywhere t names b s at v words query x behind r a m e star h g = go (began-at m e g)
+  where
+    ok : Tree t names
+    ok = table.claims .accepted t names a
+
+    go : {q : Header} → Began t names s b (seenAt s at) (ahead.Word v) q
+        → (a : Header) × Routed (λ c kept. found.Found c query kept x behind) (found.Refused UndefinedHeader) t names 0 words a × (q ≡ keeping b a)
+    go (starred c z) = (_, routed-so _ _ (header-tells query x behind) t names 0 words ok (of-header t names words query (heard ok h z)), refl)
+    go (plain c z) = clash star c
+
 demand : (t names : List ℕ) (b : ℕ) (s : List ℕ) (rooted : Bool) (words : List (List ℕ)) (query : Bool) (r : Resolved)
     → Accepted t names → branch t b ≡ true → WellFormed s rooted words query → ResolvesAlone t names b s r → Answers t names (cond rooted 0 b) words query r
 demand t names b s rooted words query r a m f x =
@@ -293,6 +308,7 @@ claims =
     record {
       demand = demand;
       anywhere = anywhere;
+      common-anywhere = common-anywhere;
       common = λ t names b s word query r a m f x. common-so t names b s word query (table.claims .accepted t names a) m f (past-check a x);
       reads = reads;
       unchecked = λ t names b s. unchecked;

@@ -7,19 +7,21 @@ use mathlib.Core.Bool.{Bool, true, cond}
 use Rattle.error.specs.declared.ErrorCode.the-variants.{UndefinedHeader}
 use Rattle.node.specs.Tree.{branch}
 use Rattle.table.specs.Fault.{Accepted}
+use Rattle.token.specs.declared.View.{View}
 use Rattle.token.specs.declared.Token.{Token}
 use Rattle.token.specs.declared.Token.the-variants.{HeaderMnemonicSeparator}
 use Rattle.tokenizer.specs.Step.{ofMessage}
 use Rattle.tokenizer.specs.declared.State.{State}
 use Rattle.header.specs.Seen.{seenAt}
-use Rattle.header.specs.Header.{Begins}
+use Rattle.header.specs.Header.{isCommon, keeping, Begins}
 use Rattle.header.specs.declared.Stop.{Stop}
+use Rattle.header.specs.declared.Ahead.the-variants as ahead
 use Rattle.header.specs.declared.Header.{Header}
 use Rattle.header.specs.declared.Header.the-variants as header
 use Rattle.tree.specs.Route.{Stage, Route, Leads}
 use Rattle.tree.specs.Alone.{Resolves, ResolvesAlone}
 use Rattle.tree.specs.WellFormed.{WellFormed, Common, Tokens, Shown}
-use Rattle.tree.specs.Heard.{Spoken}
+use Rattle.tree.specs.Heard.{Hears, Spoken}
 use Rattle.tree.specs.declared.Resolved.{Resolved}
 use Rattle.tree.specs.declared.Resolved.the-variants.{Command, Refused}
 
@@ -59,6 +61,11 @@ pub record Claims : Type 0 where
   pub common : (t names : List ℕ) (b : ℕ) (s word : List ℕ) (query : Bool) (r : Resolved)
       → Accepted t names → branch t b ≡ true → Common s word query → ResolvesAlone t names b s r
       → (a : Resolved) × Answers t names 0 (word ∷ []) query a × (r ≡ withBranch b a)
+  -- the same of a common command at any place of a message
+  pub common-anywhere : (t names : List ℕ) (b : ℕ) (s : List ℕ) (at : State) (v : View) (words : List (List ℕ)) (query : Bool) (end : Stop) (behind : State) (r : Header)
+      → Accepted t names → branch t b ≡ true → (seenAt s at) .ahead ≡ ahead.Word v → isCommon s v ≡ true → Hears s end behind words query (seenAt s at)
+      → Begins t names s b (seenAt s at) r
+      → (a : Header) × Routed (λ c kept. header.Found c query kept end behind) (header.Refused UndefinedHeader) t names 0 words a × (r ≡ keeping b a)
   -- the token step reads a well-formed header as its mnemonics
   pub reads : (s : List ℕ) (rooted : Bool) (words : List (List ℕ)) (query : Bool) → WellFormed s rooted words query
       → (tokens : List Token) × Tokens s ofMessage (cond rooted (HeaderMnemonicSeparator ∷ tokens) tokens) × Shown s words query tokens

@@ -1,6 +1,6 @@
 -- A header that is found does not go back in the text, keeps a branch of the table, has a command of 16 bits, and, where the end of the
 -- text ended it, has that end behind it.
-use Prim.Native.Nat.{ℕ, _≤_, _<_, _/_, _%_, _^_}
+use Prim.Native.Nat.{ℕ, _≤_, _<_}
 use mathlib.Core.Path.{_≡_, refl, sym, ap, subst}
 use mathlib.Core.Logic.{⊎-elim}
 use mathlib.Core.List.{List}

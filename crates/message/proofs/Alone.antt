@@ -15,19 +15,18 @@ use Rattle.tokenizer.specs.declared.State.{State}
 use Rattle.header.specs.Seen.{aheadOf, seenAt}
 use Rattle.header.specs.Header.{Begins}
 use Rattle.header.specs.Header as begins
-use Rattle.header.specs.declared.Stop.{Stop}
 use Rattle.header.specs.declared.Stop.the-variants as stop
 use Rattle.header.specs.declared.Seen.{Seen}
 use Rattle.header.specs.declared.Header.{Header}
 use Rattle.header.specs.declared.Header.the-variants as header
 use Rattle.header.proofs.Claims as headers
-use Rattle.tree.specs.Alone.{closing, Resolves, ResolvesAlone, one-header}
+use Rattle.tree.specs.Alone.{closing, Resolves, one-header}
 use Rattle.tree.specs.Alone as alone
 use Rattle.tree.specs.declared.Resolved.{Resolved}
 use Rattle.tree.specs.declared.Resolved.the-variants as resolved
 use Rattle.unit.specs.Unit.{at-end, recordOf, no-command, whole}
 use Rattle.message.specs.Message as message
-use Rattle.message.specs.Message.{isEnd, Ending, complete, refused, none, stopped, next, Message, text, CheckedMessage, fault, sound}
+use Rattle.message.specs.Message.{isEnd, complete, refused, none, stopped, next, Message, text}
 
 -- a header that is not refused as one that is missing
 abbrev Present : Header → Type 0

@@ -1,8 +1,8 @@
 -- The records of a message in an accepted table: each field has room for its value, and there are no more units than bytes.
-use Prim.Native.Nat.{ℕ, zero, suc, _-_, _≤_, _<_, _^_}
-use mathlib.Core.Path.{_≡_, refl, sym, _∙_}
-use mathlib.Core.Logic.{_⊎_, inl, inr, ⊎-elim}
-use mathlib.Core.List.{List, [], _∷_, List·Memᴰ, List·Memᴰ·not-nil, List·Memᴰ·cases-cons}
+use Prim.Native.Nat.{ℕ, _-_, _≤_, _<_}
+use mathlib.Core.Path.{_≡_}
+use mathlib.Core.Logic.{_⊎_, ⊎-elim}
+use mathlib.Core.List.{List, List·Memᴰ, List·Memᴰ·not-nil, List·Memᴰ·cases-cons}
 use mathlib.Core.Bool.{true}
 use native.Mathlib.Omega.{arith}
 use lib.ListN.{length}
@@ -11,13 +11,11 @@ use Rattle.kind.proofs.Tests.{clash, less-or-not}
 use Rattle.node.specs.Tree.{branch}
 use Rattle.node.proofs.Laws.{past-table}
 use Rattle.record.specs.Word.{wordOf, recordIn}
-use Rattle.record.specs.Claims.{Fits}
 use Rattle.record.specs.declared.Record.{Record}
 use Rattle.record.proofs.Claims as records
 use Rattle.layout.specs.Layout.{too-many}
 use Rattle.table.specs.Fault.{node-count, Accepted}
 use Rattle.table.proofs.Claims as tables
-use Rattle.tokenizer.specs.Step.{ofMessage}
 use Rattle.tokenizer.specs.declared.State.{State}
 use Rattle.header.specs.declared.Seen.{Seen}
 use Rattle.unit.specs.Unit.{Reads}

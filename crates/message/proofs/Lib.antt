@@ -7,3 +7,4 @@ pub mod Fields
 pub mod Alone
 pub mod Slots
 pub mod Claims
+pub mod Worked

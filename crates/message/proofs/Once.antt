@@ -13,13 +13,11 @@ use Rattle.table.specs.declared.Checked.the-variants as checked
 use Rattle.table.proofs.Told.{no-fault}
 use Rattle.table.proofs.Claims as tables
 use Rattle.tokenizer.specs.declared.State.{State}
-use Rattle.header.specs.Seen.{seenAt}
-use Rattle.unit.specs.Unit.{Reads}
 use Rattle.unit.specs.declared.Unit.{Unit}
 use Rattle.unit.specs.declared.Unit.the-variants as unit
 use Rattle.unit.proofs.Claims as units
 use Rattle.record.specs.declared.Record.{Record}
-use Rattle.message.specs.Message.{Ending, complete, refused, Units, none, stopped, next, Message, no-branch, too-long, text, CheckedMessage, fault, sound, Outcome, recorded, Walks}
+use Rattle.message.specs.Message.{Ending, refused, Units, none, stopped, next, Message, no-branch, too-long, text, CheckedMessage, fault, sound, Outcome, recorded, Walks}
 use Rattle.message.specs.declared.Walked.{Walked}
 
 -- units and an ending

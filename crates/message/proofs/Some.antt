@@ -1,14 +1,14 @@
 -- Every message has units and an ending.
 use Prim.Native.Nat.{ℕ, zero, suc, _-_, _≤_, _<_}
-use mathlib.Core.Path.{_≡_, refl, sym, ap, _∙_}
+use mathlib.Core.Path.{_≡_, refl, ap}
 use mathlib.Core.Logic.{_⊎_, inl, inr}
-use mathlib.Core.List.{List, []}
+use mathlib.Core.List.{List}
 use mathlib.Core.Bool.{Bool, true, false}
 use native.Mathlib.Omega.{arith}
 use lib.ListN.{length}
 use Rattle.kind.proofs.Tests.{clash, less-or-not}
 use Rattle.node.specs.Tree.{branch}
-use Rattle.tokenizer.specs.Step.{step, ofMessage}
+use Rattle.tokenizer.specs.Step.{ofMessage}
 use Rattle.tokenizer.specs.declared.State.{State}
 use Rattle.tokenizer.specs.declared.Step.{Step}
 use Rattle.tokenizer.proofs.Claims as tokens

@@ -1,18 +1,15 @@
 -- Laws of the walk, as the code meets them.
-use Prim.Native.Nat.{ℕ, zero, suc, _+_, _-_, _≤_, _<_}
+use Prim.Native.Nat.{ℕ, suc, _+_, _-_, _≤_, _<_}
 use mathlib.Core.Path.{_≡_, refl, sym, ap, subst, _∙_}
 use mathlib.Core.List.{List, [], _∷_, _++_, map}
-use mathlib.Core.Bool.{Bool, true, false, not}
+use mathlib.Core.Bool.{Bool, true, false}
 use native.Mathlib.Omega.{arith}
 use lib.ListN.{length, set, length-set, length-append}
 use borrow.Author.Needs.{needs}
-use borrow.Author.Tests.{not-true, not-false, le-leb, lt-leb}
+use borrow.Author.Tests.{le-leb, lt-leb}
 use Rattle.error.specs.declared.ErrorCode.{ErrorCode}
 use Rattle.error.specs.declared.ErrorCode.the-variants as refusal
 use Rattle.node.specs.Tree.{branch}
-use Rattle.table.specs.Fault.{Accepted, Verdict}
-use Rattle.table.specs.declared.Checked.{Checked}
-use Rattle.table.specs.declared.Checked.the-variants as checked
 use Rattle.tokenizer.specs.Step.{ofMessage}
 use Rattle.tokenizer.specs.declared.State.{State}
 use Rattle.header.specs.Seen.{seenAt}
@@ -22,8 +19,7 @@ use Rattle.unit.specs.declared.Unit.{Unit}
 use Rattle.unit.specs.declared.Unit.the-variants as unit
 use Rattle.record.specs.Word.{wordOf}
 use Rattle.record.specs.declared.Record.{Record}
-use Rattle.message.specs.Message.{isEnd, Ending, complete, refused, Units, none, stopped, next, Message, no-branch, too-long, text, CheckedMessage, fault, sound, written, recorded, Walks}
-use Rattle.message.specs.declared.Walked.{Walked}
+use Rattle.message.specs.Message.{isEnd, Ending, complete, refused, Units, none, stopped, next, Message, written, told, recorded, Walks}
 use Rattle.message.specs.declared.Walked.the-variants as walked
 use Rattle.message.proofs.Some.{some-units}
 
@@ -61,7 +57,7 @@ one-behind (v ∷ us) u vs = ap (λ l. v ∷ l) (one-behind us u vs)
 
 -- the outcome where there is a slot for each unit, and where there is none for the last
 fitting : (slots : List ℕ) (us : List Record) (e : Ending) → length us ≤ length slots
-    → recorded slots us e ≡ record { says = Rattle.message.specs.Message.told (length us) e; slots = written (map wordOf us) slots }
+    → recorded slots us e ≡ record { says = told (length us) e; slots = written (map wordOf us) slots }
 unfolding recorded
 fitting slots us e h = rw (le-leb _ _ h)
 
@@ -83,7 +79,7 @@ module _ (t names s : List ℕ) (start : ℕ) (before : List ℕ) (count kept : 
   M = Units t names s start ofMessage
 
   -- the walk ends here, with all units written
-  ends : (e : Ending) → Units t names s kept st [] e → Walks M before (Rattle.message.specs.Message.told count e) slots
+  ends : (e : Ending) → Units t names s kept st [] e → Walks M before (told count e) slots
   ends e h =
       record {
         units = so .units;

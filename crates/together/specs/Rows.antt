@@ -1,7 +1,5 @@
 -- The rows of the scope that are proved together, in one statement. Row 2 is of a message, 1 and 5 to 9 are of data alone.
-use Prim.Native.Nat.{ℕ}
 use mathlib.Core.Path.{_≡_}
-use mathlib.Core.List.{List}
 use mathlib.Core.Bool.{true, false}
 use lib.IntN.{pos}
 use Rattle.error.specs.declared.ErrorCode.the-variants.{ProgramMnemonicTooLong, NumericDataError, InvalidBlockData, SuffixNotAllowed, DataOutOfRange}

@@ -67,6 +67,7 @@ worked =
           };
       open-from-route =
           record { stages = by-word 6 ∷ []; leaf = 6; route = said (child 2 6 refl refl refl) refl (here refl); command = refl };
+      identify = record { stages = by-word 1 ∷ []; leaf = 1; route = said (child 0 1 refl refl refl) refl (here refl); command = refl };
       voltage = voltage;
       voltage-text = voltage-text;
       voltage-dc =

@@ -46,8 +46,10 @@ pub record Worked : Type 0 where
   pub accepted : Accepted nodes names
   -- both nodes spoken
   pub route-close : Here 0 (ascii "ROUT" ∷ ascii "CLOS" ∷ []) 3 2
-  -- from ROUTe its child alone, in its long form
-  pub open-from-route : Here 2 (ascii "open" ∷ []) 4 2
+  -- from ROUTe its child alone
+  pub open-from-route : Here 2 (ascii "OPEN" ∷ []) 4 2
+  -- a common command
+  pub identify : Here 0 (ascii "*IDN" ∷ []) 1 0
   -- SENSe and DC unsaid: SENSe holds the node spoken last
   pub voltage : Here 0 (ascii "VOLT" ∷ []) 6 3
   -- and so this is what the text is answered

@@ -1,6 +1,6 @@
 -- Laws of the data of a unit, as the code meets them.
 use Prim.Native.Nat.{ℕ, _+_, _-_, _≤_, _<_, _^_}
-use mathlib.Core.Path.{_≡_, refl, sym, _∙_}
+use mathlib.Core.Path.{_≡_, refl}
 use mathlib.Core.List.{List}
 use native.Mathlib.Omega.{arith}
 use lib.ListN.{length}
@@ -8,7 +8,7 @@ use borrow.Author.Needs.{needs}
 use Rattle.error.specs.declared.ErrorCode.{ErrorCode}
 use Rattle.error.specs.declared.ErrorCode.the-variants.{SyntaxError}
 use Rattle.tokenizer.specs.declared.State.{State}
-use Rattle.unit.specs.Entry.{metWith, metAt}
+use Rattle.unit.specs.Entry.{metAt}
 use Rattle.unit.specs.Items.{Joined, ended, more, missing, doubled, touching, refused, refused-item, Items, none, some, first-missing, first-refused}
 use Rattle.unit.specs.declared.Entry.the-variants as entry
 use Rattle.unit.specs.declared.Met.{Met}

@@ -1,6 +1,6 @@
 -- One answer only: the answer to a unit is determined by table, start and text.
 use Prim.Native.Nat.{ℕ, _+_}
-use mathlib.Core.Path.{_≡_, refl, sym, ap, subst, _∙_}
+use mathlib.Core.Path.{_≡_, refl, sym, ap, subst}
 use mathlib.Core.List.{List}
 use mathlib.Core.Bool.{Bool}
 use Rattle.error.specs.declared.ErrorCode.{ErrorCode}

@@ -1,5 +1,5 @@
 -- A unit that is read does not go back in the text, keeps a branch, and has no more items than the text has bytes.
-use Prim.Native.Nat.{ℕ, _+_, _≤_, _<_}
+use Prim.Native.Nat.{ℕ, _≤_, _<_}
 use mathlib.Core.Path.{_≡_, refl, ap}
 use mathlib.Core.Logic.{⊎-elim}
 use mathlib.Core.List.{List}
@@ -8,7 +8,6 @@ use native.Mathlib.Omega.{arith}
 use lib.ListN.{length}
 use Rattle.kind.proofs.Tests.{less-or-not}
 use Rattle.node.specs.Tree.{branch}
-use Rattle.tokenizer.specs.Step.{step}
 use Rattle.tokenizer.specs.declared.State.{State}
 use Rattle.tokenizer.specs.declared.Step.{Step}
 use Rattle.tokenizer.proofs.Claims as tokens
@@ -18,7 +17,7 @@ use Rattle.header.proofs.Claims as headers
 use Rattle.record.specs.declared.Record.{Record}
 use Rattle.unit.specs.Entry.{metWith, metAt}
 use Rattle.unit.specs.Items.{Joined, ended, more, missing, doubled, touching, refused, refused-item, Items, none, some, first-missing, first-refused}
-use Rattle.unit.specs.Unit.{Behind, separated, at-unit, at-end, Reads, no-command, no-data, whole}
+use Rattle.unit.specs.Unit.{Behind, separated, at-unit, at-end, Reads, whole}
 use Rattle.unit.specs.declared.Entry.{Entry}
 use Rattle.unit.specs.declared.Met.{Met}
 use Rattle.unit.specs.declared.Data.{Data}

@@ -1,6 +1,5 @@
 -- A message unit: a header, its form and its items, IEEE 488.2 7.3.
 use Prim.Native.Nat.{ℕ}
-use mathlib.Core.Path.{_≡_}
 use mathlib.Core.List.{List}
 use mathlib.Core.Bool.{Bool}
 use Rattle.error.specs.declared.ErrorCode.{ErrorCode}

@@ -3,9 +3,10 @@ use mathlib.Core.Path.{refl}
 use Rattle.report.specs.Claims.{Rows}
 use Rattle.report.specs.Number.{decimalOf, decimal, signed}
 use Rattle.report.specs.Tokens.{viewText, placeText, flagsText, takenText, endText, refusedText}
+use Rattle.report.specs.Units.{pairText, formText, unitText, stopText, totalText}
 
 pub rows : Rows
-unfolding decimalOf decimal signed viewText placeText flagsText takenText endText refusedText
+unfolding decimalOf decimal signed viewText placeText flagsText takenText endText refusedText pairText formText unitText stopText totalText
 rows =
     record {
       zero = refl;
@@ -18,4 +19,7 @@ rows =
       radix = refl;
       end = refl;
       refused = refl;
+      unit = refl;
+      stop = refl;
+      total = refl;
     }

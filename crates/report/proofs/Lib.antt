@@ -4,4 +4,5 @@ pub mod Numbers
 pub mod Signs
 pub mod Parts
 pub mod Steps
+pub mod Lines
 pub mod Claims

@@ -7,6 +7,7 @@ use Rattle.kind.specs.Text.{ascii}
 use Rattle.token.specs.declared.Token.the-variants.{ProgramMnemonic, DecimalNumericSuffixProgramData, NonDecimalNumericProgramData}
 use Rattle.report.specs.Number.{decimal, signed}
 use Rattle.report.specs.Tokens.{takenText, endText, refusedText}
+use Rattle.report.specs.Units.{unitText, stopText, totalText}
 
 -- Worked examples.
 pub record Rows : Type 0 where
@@ -20,3 +21,6 @@ pub record Rows : Type 0 where
   pub radix : takenText (NonDecimalNumericProgramData 255) (record { place = 4; in_header = false; in_common = false }) ≡ ascii "radix 255 @4 d | "
   pub end : endText 300000 ≡ ascii "end @300000\n"
   pub refused : refusedText SyntaxError ≡ ascii "refused -102\n"
+  pub unit : unitText 1 (record { command = 3; query = false; branch = 2; items = 1 }) ≡ ascii "1 3 event 1 2\n"
+  pub stop : stopText 12 SyntaxError ≡ ascii "12 refused -102\n"
+  pub total : totalText 0 ≡ ascii "end 0\n"

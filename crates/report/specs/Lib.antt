@@ -2,3 +2,4 @@ pub mod Added
 pub mod Claims
 pub mod Number
 pub mod Tokens
+pub mod Units

@@ -1,0 +1,65 @@
+-- The lines of the message walk, part by part.
+use Prim.Native.Nat.{ℕ}
+use mathlib.Core.Path.{_≡_}
+use mathlib.Core.List.{List, _++_}
+use mathlib.Core.Bool.{Bool, true, false}
+use lib.IntN.{ℤ}
+use lib.ListN.{take, drop}
+use borrow.Author.Needs.{needs}
+use mir.Syntax.{w16}
+use mir.Val.{SFits, toZ, ofZ}
+use mir.ValLaws.{toZ-ofZ}
+use Rattle.io.specs.Counts.{Counts}
+use Rattle.error.specs.Code.{codeOf}
+use Rattle.error.specs.declared.ErrorCode.{ErrorCode}
+use Rattle.kind.specs.Text.{ascii}
+use Rattle.record.specs.declared.Record.{Record}
+use Rattle.report.specs.Added.{Added}
+use Rattle.report.specs.Number.{decimal, signed}
+use Rattle.report.specs.Units.{pairText, formText, unitText, stopText, totalText}
+use Rattle.report.proofs.Adds.{join, join3}
+use Rattle.report.proofs.Steps.{counted′, ends′}
+
+module _ (l o p q : List ℕ) (at a b r : ℕ) where
+  pub pair′ : (n m : ℕ) → Added l at (decimal n) o a → Added o a (ascii " ") p b → Added p b (decimal m) q r → Added l at (pairText n m) q r
+  unfolding pairText
+  pair′ n m = join3 l o p q at a b r (decimal n) (ascii " ") (decimal m)
+
+module _ (l o : List ℕ) (at r : ℕ) (query : Bool) where
+  pub query′ : query ≡ true → Added l at (ascii " query ") o r → Added l at (formText query) o r
+  unfolding formText
+  query′ e a = rw e a
+
+  pub event′ : query ≡ false → Added l at (ascii " event ") o r → Added l at (formText query) o r
+  unfolding formText
+  event′ e a = rw e a
+
+pub ruleset parts = (needs, pair′, query′, event′)
+
+-- whole lines
+module _ (l o p q z : List ℕ) (a b c r : ℕ) where
+  pub unit′ : (n : ℕ) (u : Record) → Added l 0 (pairText n (u .command)) o a → Added o a (formText (u .query)) p b
+      → Added p b (pairText (u .items) (u .branch)) q c → Added q c (ascii "\n") z r → Added l 0 (unitText n u) z r
+  unfolding unitText
+  unit′ n u x y v w =
+      join l q z 0 c r (pairText n (u .command) ++ formText (u .query) ++ pairText (u .items) (u .branch)) (ascii "\n")
+      (join3 l o p q 0 a b c (pairText n (u .command)) (formText (u .query)) (pairText (u .items) (u .branch)) x y v) w
+
+  pub stop′ : (n : ℕ) (m : ℤ) (e : ErrorCode) → m ≡ codeOf e → SFits w16 m → Added l 0 (decimal n) o a → Added o a (ascii " refused ") p b
+      → Added p b (signed (toZ w16 (ofZ w16 m))) q c → Added q c (ascii "\n") z r → Added l 0 (stopText n e) z r
+  unfolding stopText
+  stop′ n m e k f x y v w =
+      rw k at (join l q z 0 c r (decimal n ++ ascii " refused " ++ signed m) (ascii "\n")
+      (join3 l o p q 0 a b c (decimal n) (ascii " refused ") (signed m) x y (rw (toZ-ofZ w16 m f) at v)) w)
+
+pub total′ : (l o p q : List ℕ) (a b r n : ℕ) → Added l 0 (ascii "end ") o a → Added o a (decimal n) p b → Added p b (ascii "\n") q r
+    → Added l 0 (totalText n) q r
+unfolding totalText
+total′ l o p q a b r n = join3 l o p q 0 a b r (ascii "end ") (decimal n) (ascii "\n")
+
+-- a line that is written from the front of a buffer on: its bytes, and what stands behind them
+pub whole : (l t o : List ℕ) (r : ℕ) → Added l 0 t o r → Counts r o × (take r o ≡ t) × (drop r o ≡ drop r l)
+unfolding Added
+whole l t o r a = ((ends′ l o t r a, counted′ l o t r a), a .1, a .2)
+
+pub ruleset lines = (needs, unit′, stop′, total′)

@@ -25,7 +25,7 @@ use Rattle.message.proofs.Some.{some-units}
 
 -- the slots: one more word, and what does not fit
 
-written-length : (ws slots : List ℕ) → length (written ws slots) ≡ length slots
+pub written-length : (ws slots : List ℕ) → length (written ws slots) ≡ length slots
 unfolding written
 written-length [] slots = refl
 written-length (w ∷ ws) [] = refl

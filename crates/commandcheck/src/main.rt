@@ -11,7 +11,7 @@ use libc::STDOUT_FILENO;
 use message::Walked;
 use nodes::names;
 use nodes::nodes;
-use record::Record;
+use report::Told;
 
 // The buffer of a message, and the slots of its records.
 type Text = [u8; 4096];
@@ -100,7 +100,10 @@ fn put_too_long() -> bool {
     if !put_title() {
         return false;
     }
-    put_refused(1, ErrorCode::MessageTooLong)
+    put_line(Told::Refused {
+        number: 1,
+        error: ErrorCode::MessageTooLong,
+    })
 }
 
 fn put_title() -> bool {
@@ -114,7 +117,7 @@ fn put_all(slots: &Slots, units: usize) -> bool
     if !put_units(slots, units) {
         return false;
     }
-    put_end(units)
+    put_line(Told::End(units))
 }
 
 // The units before the one that is refused.
@@ -124,7 +127,10 @@ fn put_up_to(slots: &Slots, units: usize, error: ErrorCode) -> bool
     if !put_units(slots, units) {
         return false;
     }
-    put_refused(units + 1, error)
+    put_line(Told::Refused {
+        number: units + 1,
+        error,
+    })
 }
 
 fn put_units(slots: &[u64], units: usize) -> bool
@@ -132,7 +138,11 @@ fn put_units(slots: &[u64], units: usize) -> bool
 {
     let mut i = 0;
     while i < units {
-        if !put_unit(i + 1, record::unpack(slots[i])) {
+        let told = Told::Unit {
+            number: i + 1,
+            unit: record::unpack(slots[i]),
+        };
+        if !put_line(told) {
             return false;
         }
         i += 1;
@@ -140,20 +150,9 @@ fn put_units(slots: &[u64], units: usize) -> bool
     true
 }
 
-fn put_unit(number: usize, unit: Record) -> bool {
+// Writes one line.
+fn put_line(told: Told) -> bool {
     let mut line = [0u8; 128];
-    let n = report::unit_line(number, unit, &mut line);
-    io::write_all(STDOUT_FILENO, &line[..n])
-}
-
-fn put_refused(number: usize, error: ErrorCode) -> bool {
-    let mut line = [0u8; 128];
-    let n = report::refused_line(number, error, &mut line);
-    io::write_all(STDOUT_FILENO, &line[..n])
-}
-
-fn put_end(units: usize) -> bool {
-    let mut line = [0u8; 128];
-    let n = report::end_line(units, &mut line);
+    let n = report::walk_line(told, &mut line);
     io::write_all(STDOUT_FILENO, &line[..n])
 }

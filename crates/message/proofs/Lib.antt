@@ -7,4 +7,3 @@ pub mod Fields
 pub mod Alone
 pub mod Slots
 pub mod Claims
-pub mod Worked

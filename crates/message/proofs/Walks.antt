@@ -19,7 +19,7 @@ use Rattle.unit.specs.declared.Unit.{Unit}
 use Rattle.unit.specs.declared.Unit.the-variants as unit
 use Rattle.record.specs.Word.{wordOf}
 use Rattle.record.specs.declared.Record.{Record}
-use Rattle.message.specs.Message.{isEnd, Ending, complete, refused, Units, none, stopped, next, Message, written, told, recorded, Walks}
+use Rattle.message.specs.Message.{isEnd, Ending, complete, refused, Units, none, stopped, next, written, told, recorded, Walks}
 use Rattle.message.specs.declared.Walked.the-variants as walked
 use Rattle.message.proofs.Some.{some-units}
 

@@ -1,3 +1,2 @@
 pub mod Message
 pub mod Claims
-pub mod Worked

@@ -5,7 +5,6 @@ use mathlib.Core.Logic.{_⊎_}
 use mathlib.Core.List.{List, [], _++_}
 use mathlib.Core.Bool.{true, false}
 use lib.ListN.{length, getD}
-use Rattle.kind.specs.Text.{ascii}
 use Rattle.kind.specs.Class.{isDigit}
 use Rattle.util.specs.Run.{every}
 use Rattle.mnemonic.specs.Mnemonic.{numericSuffixStart, stem, numericSuffix, matches}
@@ -24,16 +23,6 @@ pub record Forms (n : List ℕ) (name : Name n) : Type 0 where
   pub short-form : short n ≡ name .star ++ name .capitals
   pub number : numericSuffix n ≡ name .digits
 
--- Worked examples, rows 3 and 4 of the table that is proved together.
-pub record Rows : Type 0 where
-  pub short-word : matches (ascii "TRIGger") (ascii "TRIG") ≡ true
-  pub long-word : matches (ascii "TRIGger") (ascii "TRIGGER") ≡ true
-  pub between : matches (ascii "TRIGger") (ascii "TRIGG") ≡ false
-  pub number : matches (ascii "TRIGger2") (ascii "TRIG2") ≡ true
-  pub no-number : matches (ascii "TRIGger2") (ascii "TRIG") ≡ false
-  pub one : matches (ascii "TRIGger") (ascii "TRIG1") ≡ true
-  pub one-with-zero : matches (ascii "TRIGger") (ascii "TRIG01") ≡ false
-
 pub record Claims : Type 0 where
   -- every text is split so
   pub splits : (s : List ℕ) → Split s
@@ -41,4 +30,3 @@ pub record Claims : Type 0 where
   pub forms : (n : List ℕ) (name : Name n) → Forms n name
   -- for a table name and any word at all, a match is the rule of spelling
   pub match-spells : (n w : List ℕ) → Name n → matches n w ≡ spells n w
-  pub rows : Rows

@@ -1,6 +1,6 @@
 -- The lines of the message walk, part by part.
 use Prim.Native.Nat.{ℕ}
-use mathlib.Core.Path.{_≡_}
+use mathlib.Core.Path.{_≡_, sym, ap, _∙_}
 use mathlib.Core.List.{List, _++_}
 use mathlib.Core.Bool.{Bool, true, false}
 use lib.IntN.{ℤ}
@@ -16,7 +16,8 @@ use Rattle.kind.specs.Text.{ascii}
 use Rattle.record.specs.declared.Record.{Record}
 use Rattle.report.specs.Added.{Added}
 use Rattle.report.specs.Number.{decimal, signed}
-use Rattle.report.specs.Units.{pairText, formText, unitText, stopText, totalText}
+use Rattle.report.specs.Units.{pairText, formText, unitText, stopText, totalText, lineText}
+use Rattle.report.specs.declared.units.Told.{Told}
 use Rattle.report.proofs.Adds.{join, join3}
 use Rattle.report.proofs.Steps.{counted′, ends′}
 
@@ -63,3 +64,9 @@ unfolding Added
 whole l t o r a = ((ends′ l o t r a, counted′ l o t r a), a .1, a .2)
 
 pub ruleset lines = (needs, unit′, stop′, total′)
+
+-- a line, told by its case
+pub told′ : (t : List ℕ) (x y : Told) → x ≡ y → t ≡ lineText y → t ≡ lineText x
+told′ t x y e h = h ∙ sym (ap lineText e)
+
+pub ruleset told-laws = (needs, told′)

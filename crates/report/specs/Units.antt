@@ -7,6 +7,8 @@ use Rattle.error.specs.declared.ErrorCode.{ErrorCode}
 use Rattle.kind.specs.Text.{ascii}
 use Rattle.record.specs.declared.Record.{Record}
 use Rattle.report.specs.Number.{decimal, signed}
+use Rattle.report.specs.declared.units.Told.{Told}
+use Rattle.report.specs.declared.units.Told.the-variants as told
 
 -- two numbers with a blank between them
 unfoldable pub pairText : ℕ → ℕ → List ℕ
@@ -27,3 +29,9 @@ stopText n e = decimal n ++ ascii " refused " ++ signed (codeOf e) ++ ascii "\n"
 -- the end of a message, with the number of its units
 unfoldable pub totalText : ℕ → List ℕ
 totalText n = ascii "end " ++ decimal n ++ ascii "\n"
+
+-- a line of the answer
+abbrev pub lineText : Told → List ℕ
+lineText (told.Unit n u) = unitText n u
+lineText (told.Refused n e) = stopText n e
+lineText (told.End n) = totalText n

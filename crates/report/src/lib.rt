@@ -4,6 +4,5 @@ mod units;
 mod write;
 
 pub use tokens::token_part;
-pub use units::end_line;
-pub use units::refused_line;
-pub use units::unit_line;
+pub use units::Told;
+pub use units::walk_line;

@@ -4,7 +4,7 @@ ghost use Prim.Native.Nat.{_+_, _≤_};
 ghost use lib.ListN.{take, drop};
 ghost use Rattle.io.specs.Counts.{Counts};
 ghost use Rattle.report.specs.Added.{Added};
-ghost use Rattle.report.specs.Units.{pairText, formText, unitText, stopText, totalText};
+ghost use Rattle.report.specs.Units.{pairText, formText, unitText, stopText, totalText, lineText};
 use crate::write::Line;
 use crate::write::add;
 use crate::write::add_number;
@@ -12,11 +12,25 @@ use crate::write::add_signed;
 use error::ErrorCode;
 use record::Record;
 
-// Each function here writes a line to the front of a buffer, and answers how many bytes it has. The rest of the buffer stays as it
-// was.
+// A line: a unit that was read, by its number in the message; the one that is refused; or the end, with the number of units.
+pub enum Told {
+    Unit { number: usize, unit: Record },
+    Refused { number: usize, error: ErrorCode },
+    End(usize),
+}
 
-// A unit that was read, by its number in the message.
-pub fn unit_line(number: usize, unit: Record, line: &mut [u8; 128]) -> usize
+// Writes a line to the front of a buffer, and answers how many bytes it has. The rest of the buffer stays as it was.
+pub fn walk_line(told: Told, line: &mut [u8; 128]) -> usize
+    ensures { λ r. ⌜ (Counts r (now (line .exit))) × (take r (now (line .exit)) ≡ lineText told) × (drop r (now (line .exit)) ≡ drop r (now (line .entry))) ⌝ }
+{
+    match told {
+        Told::Unit { number, unit } => unit_line(number, unit, line),
+        Told::Refused { number, error } => refused_line(number, error, line),
+        Told::End(units) => end_line(units, line),
+    }
+}
+
+fn unit_line(number: usize, unit: Record, line: &mut [u8; 128]) -> usize
     ensures { λ r. ⌜ (Counts r (now (line .exit))) × (take r (now (line .exit)) ≡ unitText number unit) × (drop r (now (line .exit)) ≡ drop r (now (line .entry))) ⌝ }
 {
     let command = add_pair(line, 0, number as u64, unit.command as u64);
@@ -25,8 +39,7 @@ pub fn unit_line(number: usize, unit: Record, line: &mut [u8; 128]) -> usize
     add(line, branch, b"\n")
 }
 
-// The unit that is refused, by its number in the message.
-pub fn refused_line(number: usize, e: ErrorCode, line: &mut [u8; 128]) -> usize
+fn refused_line(number: usize, e: ErrorCode, line: &mut [u8; 128]) -> usize
     ensures { λ r. ⌜ (Counts r (now (line .exit))) × (take r (now (line .exit)) ≡ stopText number e) × (drop r (now (line .exit)) ≡ drop r (now (line .entry))) ⌝ }
 {
     let shown = add_number(line, 0, number as u64);
@@ -35,8 +48,7 @@ pub fn refused_line(number: usize, e: ErrorCode, line: &mut [u8; 128]) -> usize
     add(line, code, b"\n")
 }
 
-// The end of a message, with the number of its units.
-pub fn end_line(units: usize, line: &mut [u8; 128]) -> usize
+fn end_line(units: usize, line: &mut [u8; 128]) -> usize
     ensures { λ r. ⌜ (Counts r (now (line .exit))) × (take r (now (line .exit)) ≡ totalText units) × (drop r (now (line .exit)) ≡ drop r (now (line .entry))) ⌝ }
 {
     let word = add(line, 0, b"end ");

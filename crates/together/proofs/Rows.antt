@@ -1,27 +1,33 @@
--- The rows, from the claims of the crates.
-use mathlib.Core.Path.{_≡_, refl}
-use Rattle.kind.specs.Text.{ascii}
-use Rattle.token.specs.View.{viewOf, partOf}
-use Rattle.mnemonic.proofs.Claims as names
-use Rattle.tokenizer.proofs.Claims as tokens
+-- The rows.
+use mathlib.Core.Path.{refl}
+use Rattle.kind.specs.Class.{isWhiteSpace, isCapital, isSmall, isDigit, isLetter, inMnemonic, isSign, isQuote}
+use Rattle.kind.specs.Kind.{kindOf}
+use Rattle.util.specs.Run.{run, runEnd, signEnd, standsAt, every}
+use Rattle.mnemonic.specs.Mnemonic.{matches, compares, numericSuffixStart, lastEnd, sameNumericSuffix, pairs, folded, eitherCase, notSmall, mayLeaveOut}
+use Rattle.number.specs.Digit.{digitOf, isDigitOf, valueOf}
+use Rattle.number.specs.Number.{digits, foundAt, unsignedOf, unsignedAt}
+use Rattle.token.specs.View.{partOf}
+use Rattle.item.specs.Follow.{endsData, followed}
+use Rattle.item.specs.Word.{starEnd, mnemonic}
+use Rattle.decimal.specs.Decimal.{wholeEnd, hasWhole, fractionEnd, mantissa, beginsExponent, exponent, withExponent, number, inSuffix, beginsSuffix, suffixed, suffixData, numericTo, numericData}
+use Rattle.hash.specs.Nondecimal.{nondecimalOf, nondecimalData}
+use Rattle.hash.specs.Block.{payload, definite, indefinite, arbitraryData, hashBy, hashData}
+use Rattle.tokenizer.specs.Step.{taken, refusal, readAs, outside, byKind, step}
 use Rattle.coordinate.proofs.Claims as coordinates
 use Rattle.together.specs.Rows.{Rows}
 
-hello : partOf (ascii "#15hello") (viewOf 3 8) ≡ ascii "hello"
-unfolding partOf
-hello = refl
-
 pub rows : Rows
+unfolding step byKind readAs outside taken refusal kindOf mnemonic starEnd numericData numericTo number withExponent mantissa hasWhole wholeEnd fractionEnd exponent beginsExponent suffixData suffixed beginsSuffix inSuffix hashData hashBy arbitraryData indefinite definite payload nondecimalData nondecimalOf followed endsData unsignedAt unsignedOf foundAt digits valueOf isDigitOf digitOf run runEnd signEnd standsAt every isWhiteSpace isCapital isSmall isDigit isLetter inMnemonic isSign isQuote matches compares numericSuffixStart lastEnd sameNumericSuffix pairs folded eitherCase notSmall mayLeaveOut partOf
 rows =
     record {
-      row-1 = (tokens.claims .rows .before-newline, tokens.claims .rows .separator);
-      row-2 = (tokens.claims .rows .star-and-11, tokens.claims .rows .star-and-12);
-      row-3 = (names.claims .rows .short-word, names.claims .rows .long-word, names.claims .rows .between);
-      row-4 = (names.claims .rows .number, names.claims .rows .no-number, names.claims .rows .one, names.claims .rows .one-with-zero);
-      row-5 = tokens.claims .rows .no-newline;
-      row-6 = (tokens.claims .rows .five-bytes, hello, tokens.claims .rows .four-of-five);
-      row-7 = (tokens.claims .rows .exponent-and-suffix, tokens.claims .rows .exponent-without-digit, tokens.claims .rows .suffix-behind-blank);
-      row-8 = (tokens.claims .rows .hexadecimal, tokens.claims .rows .suffixed-hexadecimal);
-      row-9 = tokens.claims .rows .too-large;
+      row-1 = (refl, refl, refl);
+      row-2 = (refl, refl, refl);
+      row-3 = (refl, refl, refl);
+      row-4 = (refl, refl, refl, refl);
+      row-5 = refl;
+      row-6 = (refl, refl, refl);
+      row-7 = (refl, refl, refl);
+      row-8 = (refl, refl);
+      row-9 = refl;
       row-10 = coordinates.claims .rows .three-seven;
     }

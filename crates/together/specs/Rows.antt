@@ -7,21 +7,21 @@ use Rattle.kind.specs.Text.{ascii}
 use Rattle.mnemonic.specs.Mnemonic.{matches}
 use Rattle.token.specs.View.{viewOf, partOf}
 use Rattle.token.specs.declared.Token.the-variants.{ProgramMessageUnitSeparator, ProgramMnemonic, DecimalNumericProgramData, DecimalNumericSuffixProgramData, NonDecimalNumericProgramData, ArbitraryBlockData}
-use Rattle.tokenizer.specs.Step.{ofMessage, ofData}
+use Rattle.tokenizer.specs.Step.{stateOf, ofMessage, ofData}
 use Rattle.tokenizer.specs.Claims.{answerOf, stateBehind}
 use Rattle.tokenizer.specs.declared.Answer.the-variants.{Token, Refused}
 use Rattle.coordinate.specs.Coordinate.{written, pairOf}
 use Rattle.coordinate.specs.declared.Pair.the-variants as pair
 
 pub record Rows : Type 0 where
-  -- `1`, newline, `;`: 1, next `;`
-  pub row-1 :
-      (answerOf (ascii "1\n;") ofData ≡ Token (DecimalNumericProgramData (viewOf 0 1)))
+  -- `1`, newline, `;`: 1, next `;`. The newline is white space behind the number.
+  pub row-1 : (answerOf (ascii "1\n;") ofData ≡ Token (DecimalNumericProgramData (viewOf 0 1)))
+      × ((stateBehind (ascii "1\n;") ofData) .place ≡ 2)
       × (answerOf (ascii "1\n;") (stateBehind (ascii "1\n;") ofData) ≡ Token ProgramMessageUnitSeparator)
-  -- `*ABCDEFGHIJK` passes; with `L` -112
-  pub row-2 :
-      (answerOf (ascii "*ABCDEFGHIJK") ofMessage ≡ Token (ProgramMnemonic (viewOf 0 12)))
+  -- `*ABCDEFGHIJK` passes; with `L` -112, and the refusal changes no flag
+  pub row-2 : (answerOf (ascii "*ABCDEFGHIJK") ofMessage ≡ Token (ProgramMnemonic (viewOf 0 12)))
       × (answerOf (ascii "*ABCDEFGHIJKL") ofMessage ≡ Refused ProgramMnemonicTooLong)
+      × (stateBehind (ascii "*ABCDEFGHIJKL") ofMessage ≡ stateOf 13 true false)
   -- TRIGger: TRIG, TRIGGER, not TRIGG
   pub row-3 :
       (matches (ascii "TRIGger") (ascii "TRIG") ≡ true) × (matches (ascii "TRIGger") (ascii "TRIGGER") ≡ true) × (matches (ascii "TRIGger") (ascii "TRIGG") ≡ false)

@@ -1,1 +1,1 @@
-// The ten worked rows of the scope, proved together: see specs/Rows. There is no code here.
+// The worked rows of the scope, proved together, and its example message: see specs/. There is no code here.

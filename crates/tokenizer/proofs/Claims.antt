@@ -7,48 +7,17 @@ use mathlib.Core.Bool.{Bool, true, false, true≢false}
 use native.Mathlib.Omega.{arith}
 use lib.ListN.{length}
 use Rattle.error.specs.declared.ErrorCode.{ErrorCode}
-use Rattle.kind.specs.Class.{isWhiteSpace, isCapital, isSmall, isDigit, isLetter, inMnemonic, isSign, isQuote}
-use Rattle.kind.specs.Kind.{kindOf}
 use Rattle.kind.proofs.Tests.{less-or-not}
 use Rattle.util.specs.Walk.{after}
 use Rattle.util.proofs.Walks.{arrives}
-use Rattle.util.specs.Run.{run, runEnd, signEnd, standsAt, every}
-use Rattle.number.specs.Digit.{digitOf, isDigitOf, valueOf}
-use Rattle.number.specs.Number.{digits, foundAt, unsignedOf, unsignedAt}
-use Rattle.item.specs.Follow.{endsData, followed}
-use Rattle.item.specs.Word.{starEnd, mnemonic}
-use Rattle.decimal.specs.Decimal.{wholeEnd, hasWhole, fractionEnd, mantissa, beginsExponent, exponent, withExponent, number, inSuffix, beginsSuffix, suffixed, suffixData, numericTo, numericData}
-use Rattle.hash.specs.Nondecimal.{nondecimalOf, nondecimalData}
-use Rattle.hash.specs.Block.{payload, definite, indefinite, arbitraryData, hashBy, hashData}
-use Rattle.tokenizer.specs.Step.{stateOf, inHeader, inCommon, taken, refusal, ended, readAs, outside, byKind, step}
-use Rattle.tokenizer.specs.Claims.{stateBehind, Rows, Claims}
+use Rattle.tokenizer.specs.Step.{stateOf, inHeader, inCommon, taken, refusal, ended, step}
+use Rattle.tokenizer.specs.Claims.{stateBehind, Claims}
 use Rattle.tokenizer.specs.declared.State.{State}
 use Rattle.tokenizer.specs.declared.Answer.{Answer}
 use Rattle.tokenizer.specs.declared.Answer.the-variants.{Token, Refused, End}
 use Rattle.tokenizer.specs.declared.Step.{Step}
 use Rattle.tokenizer.proofs.Steps.{end′}
 use Rattle.tokenizer.proofs.Progress.{each}
-
-rows : Rows
-unfolding step byKind readAs outside taken refusal kindOf mnemonic starEnd numericData numericTo number withExponent mantissa hasWhole wholeEnd fractionEnd exponent beginsExponent suffixData suffixed beginsSuffix inSuffix hashData hashBy arbitraryData indefinite definite payload nondecimalData nondecimalOf followed endsData unsignedAt unsignedOf foundAt digits valueOf isDigitOf digitOf run runEnd signEnd standsAt every isWhiteSpace isCapital isSmall isDigit isLetter inMnemonic isSign isQuote
-rows =
-    record {
-      before-newline = refl;
-      behind-newline = refl;
-      separator = refl;
-      star-and-11 = refl;
-      star-and-12 = refl;
-      flags-as-before = refl;
-      no-newline = refl;
-      five-bytes = refl;
-      four-of-five = refl;
-      exponent-and-suffix = refl;
-      exponent-without-digit = refl;
-      suffix-behind-blank = refl;
-      hexadecimal = refl;
-      suffixed-hexadecimal = refl;
-      too-large = refl;
-    }
 
 -- what tells a refusal from the other answers
 abbrev isRefusal : Answer → Bool
@@ -111,4 +80,4 @@ at-most s st =
     (arrives (λ (x : State). x .place) (stateBehind s) (length s) (moves s) (stays s) (length s) st (omega arith)))
 
 pub claims : Claims
-claims = record { moves = moves; rests = rests; refusal-state = refusal-state; after-refusal = after-refusal; end-stays = end-stays; at-most = at-most; rows = rows }
+claims = record { moves = moves; rests = rests; refusal-state = refusal-state; after-refusal = after-refusal; end-stays = end-stays; at-most = at-most }

@@ -12,8 +12,8 @@ abbrev μ-loop : tie.MeasureT-loop
 loop-holds : tie.Need-loop-holds Inv-loop μ-loop
 loop-holds c = search laws
 
-add-put-unit : tie.Need-add-put-unit Inv-loop μ-loop
-add-put-unit c = search laws
+add-t6 : tie.Need-add-t6 Inv-loop μ-loop
+add-t6 c = search laws
 
 mul-unpack : tie.Need-mul-unpack Inv-loop μ-loop
 mul-unpack c = search laws
@@ -24,8 +24,8 @@ shared-slice-read-unpack c = search laws
 unpack-requires : tie.Need-unpack-requires Inv-loop μ-loop
 unpack-requires c κs = search laws
 
-put-unit-requires : tie.Need-put-unit-requires Inv-loop μ-loop
-put-unit-requires c κs = search laws
+put-line-requires : tie.Need-put-line-requires Inv-loop μ-loop
+put-line-requires c κs = search laws
 
 returns : tie.Need-returns Inv-loop μ-loop
 returns c = search laws
@@ -49,11 +49,11 @@ put-units-spec =
     Inv-loop
     μ-loop
     loop-holds
-    add-put-unit
+    add-t6
     mul-unpack
     shared-slice-read-unpack
     unpack-requires
-    put-unit-requires
+    put-line-requires
     returns
     add-i
     loop-less

@@ -34,8 +34,8 @@ use Rattle.unit.specs.Entry.{metAt}
 use Rattle.unit.specs.Items as items
 use Rattle.unit.specs.declared.Data.the-variants as found
 use Rattle.unit.specs.Unit.{separated, at-unit, at-end, whole}
 use Rattle.message.specs.Message.{none, next, text}
-use Rattle.message.specs.Worked.{example, Worked}
+use Rattle.together.specs.Example.{example, Worked}
 
 -- what the routes say of a header is what it is answered
 begins-by : (at : State) (rooted : Bool) (words : List (List ℕ)) (query : Bool) (end : Stop) (behind : State) (b c kept : ℕ) → branch nodes b ≡ true

@@ -220,12 +220,7 @@ fn random(random: &mut Random, i: usize) -> Case {
         text = longest(random, text);
         rare = 3;
     }
-    if random.one_in(rare) {
-        damage(random, &mut table);
-    }
-    if random.one_in(rare) {
-        start = any_start(random, table.nodes.len());
-    }
+    spoiled(random, rare, &mut table, &mut start);
     Case {
         table: table_field(&table).into(),
         start,
@@ -233,8 +228,18 @@ fn random(random: &mut Random, i: usize) -> Case {
     }
 }
 
+/// Now and then damages the table, or starts at any node or at what is none.
+pub fn spoiled(random: &mut Random, rare: usize, table: &mut Table, start: &mut usize) {
+    if random.one_in(rare) {
+        damage(random, table);
+    }
+    if random.one_in(rare) {
+        *start = any_start(random, table.nodes.len());
+    }
+}
+
 /// A node, or what is none in a table of that size.
-pub fn any_start(random: &mut Random, size: usize) -> usize {
+fn any_start(random: &mut Random, size: usize) -> usize {
     let other = random.below(size + 1);
     random.pick(&[other, other, other, size, size + 1, 4_096, 65_536, 1 << 32])
 }

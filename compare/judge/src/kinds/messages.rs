@@ -4,9 +4,8 @@
 use std::sync::Arc;
 
 use super::alone::{
-    any_start, any_table, any_text, branches, faulty, joined, Make, Texts, BYTES, LONGEST_ONE_IN,
+    any_table, any_text, branches, faulty, joined, spoiled, Make, Texts, BYTES, LONGEST_ONE_IN,
 };
-use super::tables::damage;
 use super::tokens::{data, endless_block, white};
 use super::{mixed, Cases, Judged, Right};
 use crate::random::Random;
@@ -217,12 +216,7 @@ fn random(random: &mut Random, i: usize) -> Case {
         text = longest(random, &table, start, text);
         rare = 4;
     }
-    if random.one_in(rare) {
-        damage(random, &mut table);
-    }
-    if random.one_in(rare) {
-        start = any_start(random, table.nodes.len());
-    }
+    spoiled(random, rare, &mut table, &mut start);
     Case {
         table: table_field(&table).into(),
         start,

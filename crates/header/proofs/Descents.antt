@@ -16,10 +16,10 @@ use Rattle.branch.proofs.Picks.{below-in}
 use Rattle.token.specs.View.{partOf}
 use Rattle.token.specs.declared.View.{View}
 use Rattle.tokenizer.specs.declared.State.{State}
-use Rattle.header.specs.Seen.{seenWith, seenAt}
+use Rattle.ahead.specs.Seen.{seenWith, seenAt}
 use Rattle.header.specs.Header.{leafAnswer, turnOf, undefined, Reads, leaf, refused, said, unsaid, unknown, ended, nowhere}
-use Rattle.header.specs.declared.Ahead.the-variants as ahead
-use Rattle.header.specs.declared.Seen.{Seen}
+use Rattle.ahead.specs.declared.Ahead.the-variants as ahead
+use Rattle.ahead.specs.declared.Seen.{Seen}
 use Rattle.header.specs.declared.Turn.{Turn}
 use Rattle.header.specs.declared.Turn.the-variants as turn
 use Rattle.header.specs.declared.Header.{Header}

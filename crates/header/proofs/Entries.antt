@@ -16,11 +16,11 @@ use Rattle.node.specs.Word.{isBranch}
 use Rattle.node.proofs.Laws.{past-table}
 use Rattle.token.specs.View.{partOf}
 use Rattle.token.specs.declared.View.{View}
-use Rattle.header.specs.Seen.{seenAt}
+use Rattle.ahead.specs.Seen.{seenAt}
 use Rattle.header.specs.Header.{keeping, Reads, Begins, no-branch, first-refused, no-header, no-question, from-root, common, from-branch}
-use Rattle.header.specs.declared.Stop.{Stop}
-use Rattle.header.specs.declared.Ahead.the-variants as ahead
-use Rattle.header.specs.declared.Seen.{Seen}
+use Rattle.ahead.specs.declared.Stop.{Stop}
+use Rattle.ahead.specs.declared.Ahead.the-variants as ahead
+use Rattle.ahead.specs.declared.Seen.{Seen}
 use Rattle.header.specs.declared.Header.{Header}
 use Rattle.header.specs.declared.Header.the-variants as header
 

@@ -19,13 +19,13 @@ use Rattle.tokenizer.specs.declared.Answer.the-variants as answer
 use Rattle.tokenizer.specs.declared.State.{State}
 use Rattle.tokenizer.specs.declared.Step.{Step}
 use Rattle.tokenizer.proofs.Claims.{claims}
-use Rattle.header.specs.Seen.{tokenAhead, aheadOf, seenAt}
+use Rattle.ahead.specs.Seen.{tokenAhead, aheadOf, seenAt}
 use Rattle.header.specs.Header.{behindQuery, queryAnswer, atLeaf, leafAnswer, wordBehind, behindColon, atBranch, turnOf, Reads, leaf, refused, said, unsaid, unknown, ended, nowhere, keeping, Begins, no-branch, first-refused, no-header, no-question, from-root, common, from-branch}
-use Rattle.header.specs.declared.Stop.{Stop}
-use Rattle.header.specs.declared.Stop.the-variants as stop
-use Rattle.header.specs.declared.Ahead.{Ahead}
-use Rattle.header.specs.declared.Ahead.the-variants as ahead
-use Rattle.header.specs.declared.Seen.{Seen}
+use Rattle.ahead.specs.declared.Stop.{Stop}
+use Rattle.ahead.specs.declared.Stop.the-variants as stop
+use Rattle.ahead.specs.declared.Ahead.{Ahead}
+use Rattle.ahead.specs.declared.Ahead.the-variants as ahead
+use Rattle.ahead.specs.declared.Seen.{Seen}
 use Rattle.header.specs.declared.Turn.{Turn}
 use Rattle.header.specs.declared.Turn.the-variants as turn
 use Rattle.header.specs.declared.Header.{Header}

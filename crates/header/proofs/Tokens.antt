@@ -3,37 +3,19 @@ use Prim.Native.Nat.{ℕ}
 use mathlib.Core.Path.{_≡_, sym, ap, _∙_}
 use mathlib.Core.List.{List}
 use borrow.Author.Needs.{needs}
-use Rattle.token.specs.declared.Token.{Token}
-use Rattle.tokenizer.specs.Step.{step}
-use Rattle.tokenizer.specs.declared.Answer.{Answer}
 use Rattle.tokenizer.specs.declared.State.{State}
-use Rattle.tokenizer.specs.declared.Step.{Step}
-use Rattle.header.specs.Seen.{tokenAhead, aheadOf, seenWith, seenAt}
+use Rattle.ahead.specs.Seen.{seenAt}
+use Rattle.ahead.proofs.Tokens.{by-case}
 use Rattle.header.specs.Header.{behindQuery, queryAnswer, atLeaf, leafAnswer, wordBehind, behindColon, atBranch, turnOf, keeping}
-use Rattle.header.specs.declared.Ahead.{Ahead}
-use Rattle.header.specs.declared.Seen.{Seen}
+use Rattle.ahead.specs.declared.Ahead.{Ahead}
+use Rattle.ahead.specs.declared.Seen.{Seen}
 use Rattle.header.specs.declared.Turn.{Turn}
 use Rattle.header.specs.declared.Header.{Header}
-
--- told by the case that something is
-by-case : {A B : Type 0} (f : A → B) (r : B) (a b : A) → a ≡ b → r ≡ f b → r ≡ f a
-by-case f r a b e h = h ∙ sym (ap f e)
-
-pub token-told′ : (r : Ahead) (t u : Token) → t ≡ u → r ≡ tokenAhead u → r ≡ tokenAhead t
-token-told′ = by-case tokenAhead
-
-pub answer-told′ : (r : Ahead) (a b : Answer) → a ≡ b → r ≡ aheadOf b → r ≡ aheadOf a
-answer-told′ = by-case aheadOf
 
 pub kept-told′ : (b : ℕ) (r x y : Header) → x ≡ y → r ≡ keeping b y → r ≡ keeping b x
 kept-told′ b = by-case (keeping b)
 
--- what is seen
-pub look′ : (s : List ℕ) (st : State) (x : Step) → x ≡ step s st → (a : Ahead) → a ≡ aheadOf (x .answer) → seenWith a (x .state) ≡ seenAt s st
-unfolding seenAt
-look′ s st x e a f = rw (f, e)
-
-pub ruleset laws = (needs, token-told′, answer-told′, kept-told′, look′)
+pub ruleset laws = (needs, kept-told′)
 
 -- at a leaf, behind a question mark, behind a colon and at a branch, told by what is ahead
 

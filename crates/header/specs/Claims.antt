@@ -8,9 +8,9 @@ use Rattle.tokenizer.specs.Step.{step}
 use Rattle.tokenizer.specs.declared.Answer.the-variants.{End}
 use Rattle.tokenizer.specs.declared.State.{State}
 use Rattle.header.specs.Header.{Begins}
-use Rattle.header.specs.declared.Seen.{Seen}
-use Rattle.header.specs.declared.Stop.{Stop}
-use Rattle.header.specs.declared.Stop.the-variants as stop
+use Rattle.ahead.specs.declared.Seen.{Seen}
+use Rattle.ahead.specs.declared.Stop.{Stop}
+use Rattle.ahead.specs.declared.Stop.the-variants as stop
 use Rattle.header.specs.declared.Header.{Header}
 use Rattle.header.specs.declared.Header.the-variants as header
 

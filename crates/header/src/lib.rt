@@ -2,39 +2,14 @@
 ghost use Prim.Native.Nat.{_<_};
 ghost use mathlib.Core.Path.{_≡_};
 ghost use lib.ListN.{length};
-ghost use Rattle.header.specs.Seen.{tokenAhead, aheadOf, seenAt};
 ghost use Rattle.header.specs.Header.{turnOf, behindColon, leafAnswer, queryAnswer, keeping, Reads, Begins};
+use ahead::Ahead;
+use ahead::Seen;
+use ahead::Stop;
 use branch::Pick;
 use error::ErrorCode;
-use token::Token;
 use token::View;
-use tokenizer::Answer;
 use tokenizer::State;
-
-// What ends a header: white space, `;` or the end of the text.
-pub enum Stop {
-    Separator,
-    Unit,
-    Text,
-}
-
-// What a token is to a header.
-pub enum Ahead {
-    // a mnemonic
-    Word(View),
-    // `:`
-    Colon,
-    // `?`
-    Query,
-    Stop(Stop),
-    Refused(ErrorCode),
-}
-
-// What is ahead, and the state behind it.
-pub struct Seen {
-    pub ahead: Ahead,
-    pub state: State,
-}
 
 // What a header goes on with at a branch.
 pub enum Turn {
@@ -69,7 +44,7 @@ pub fn resolve(nodes: &[u64], names: &[u8], s: &[u8], start: usize, seen: Seen) 
         Ahead::Refused(e) => Header::Refused(e),
         Ahead::Stop(_) => Header::Refused(ErrorCode::SyntaxError),
         Ahead::Query => Header::Refused(ErrorCode::SyntaxError),
-        Ahead::Colon => descend(nodes, names, s, 0, 0, look(s, state)),
+        Ahead::Colon => descend(nodes, names, s, 0, 0, ahead::look(s, state)),
         Ahead::Word(word) => {
             if util::stands(token::part(s, word), 0, b'*') {
                 return keep(start, descend(nodes, names, s, 0, 0, seen));
@@ -118,7 +93,7 @@ fn descend(nodes: &[u64], names: &[u8], s: &[u8], holder: usize, at: usize, seen
         },
         Turn::Word { word, state } => {
             match branch::spoken_child(nodes, names, at, token::part(s, word)) {
-                Pick::Child(k) => descend(nodes, names, s, at, k, look(s, state)),
+                Pick::Child(k) => descend(nodes, names, s, at, k, ahead::look(s, state)),
                 Pick::None => match branch::default_child(nodes, at) {
                     Pick::None => Header::Refused(ErrorCode::UndefinedHeader),
                     Pick::Child(k) => {
@@ -148,7 +123,7 @@ fn leaf(s: &[u8], command: u16, holder: usize, seen: Seen) -> Header
             stop,
             state,
         },
-        Ahead::Query => query(command, holder, look(s, state)),
+        Ahead::Query => query(command, holder, ahead::look(s, state)),
         Ahead::Refused(e) => Header::Refused(e),
         Ahead::Word(_) => Header::Refused(ErrorCode::UndefinedHeader),
         Ahead::Colon => Header::Refused(ErrorCode::UndefinedHeader),
@@ -187,7 +162,7 @@ fn turn_at(s: &[u8], seen: Seen) -> Turn
         Ahead::Stop(_) => Turn::Stop,
         Ahead::Query => Turn::Stop,
         Ahead::Refused(e) => Turn::Refused(e),
-        Ahead::Colon => behind_colon(look(s, state)),
+        Ahead::Colon => behind_colon(ahead::look(s, state)),
     }
 }
 
@@ -203,50 +178,5 @@ fn behind_colon(seen: Seen) -> Turn
         Ahead::Stop(_) => Turn::Refused(ErrorCode::CommandHeaderError),
         Ahead::Query => Turn::Refused(ErrorCode::CommandHeaderError),
         Ahead::Colon => Turn::Refused(ErrorCode::CommandHeaderError),
-    }
-}
-
-// What the next token is to a header, and the state behind it.
-pub fn look(s: &[u8], state: State) -> Seen
-    ensures { λ r. ⌜ r ≡ seenAt (now (s .entry)) state ⌝ }
-{
-    let step = tokenizer::next(s, state);
-    let answer = step.answer;
-    let state = step.state;
-    Seen {
-        ahead: answer_ahead(answer),
-        state,
-    }
-}
-
-// The end of the text ends a header.
-fn answer_ahead(answer: Answer) -> Ahead
-    ensures { λ r. ⌜ r ≡ aheadOf answer ⌝ }
-{
-    match answer {
-        Answer::End => Ahead::Stop(Stop::Text),
-        Answer::Refused(e) => Ahead::Refused(e),
-        Answer::Token(token) => token_ahead(token),
-    }
-}
-
-// Data and a comma have no place in a header.
-fn token_ahead(token: Token) -> Ahead
-    ensures { λ r. ⌜ r ≡ tokenAhead token ⌝ }
-{
-    match token {
-        Token::ProgramMnemonic(word) => Ahead::Word(word),
-        Token::HeaderMnemonicSeparator => Ahead::Colon,
-        Token::HeaderQuerySuffix => Ahead::Query,
-        Token::ProgramHeaderSeparator => Ahead::Stop(Stop::Separator),
-        Token::ProgramMessageUnitSeparator => Ahead::Stop(Stop::Unit),
-        Token::ProgramDataSeparator => Ahead::Refused(ErrorCode::SyntaxError),
-        Token::CharacterProgramData(_) => Ahead::Refused(ErrorCode::SyntaxError),
-        Token::DecimalNumericProgramData(_) => Ahead::Refused(ErrorCode::SyntaxError),
-        Token::DecimalNumericSuffixProgramData(_, _) => Ahead::Refused(ErrorCode::SyntaxError),
-        Token::NonDecimalNumericProgramData(_) => Ahead::Refused(ErrorCode::SyntaxError),
-        Token::StringProgramData(_) => Ahead::Refused(ErrorCode::SyntaxError),
-        Token::ArbitraryBlockData(_) => Ahead::Refused(ErrorCode::SyntaxError),
-        Token::ExpressionProgramData(_) => Ahead::Refused(ErrorCode::SyntaxError),
     }
 }

@@ -12,11 +12,11 @@ use Rattle.record.specs.declared.Record.{Record}
 use Rattle.tokenizer.specs.Step.{step, ofMessage}
 use Rattle.tokenizer.specs.declared.Answer.the-variants.{End}
 use Rattle.tokenizer.specs.declared.State.{State}
-use Rattle.header.specs.Seen.{aheadOf, seenAt}
+use Rattle.ahead.specs.Seen.{aheadOf, seenAt}
 use Rattle.header.specs.Header.{Begins}
 use Rattle.header.specs.Header as begins
-use Rattle.header.specs.declared.Stop.the-variants as stop
-use Rattle.header.specs.declared.Seen.{Seen}
+use Rattle.ahead.specs.declared.Stop.the-variants as stop
+use Rattle.ahead.specs.declared.Seen.{Seen}
 use Rattle.header.specs.declared.Header.{Header}
 use Rattle.header.specs.declared.Header.the-variants as header
 use Rattle.header.proofs.Claims as headers

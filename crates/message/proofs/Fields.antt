@@ -17,7 +17,7 @@ use Rattle.layout.specs.Layout.{too-many}
 use Rattle.table.specs.Fault.{node-count, Accepted}
 use Rattle.table.proofs.Claims as tables
 use Rattle.tokenizer.specs.declared.State.{State}
-use Rattle.header.specs.declared.Seen.{Seen}
+use Rattle.ahead.specs.declared.Seen.{Seen}
 use Rattle.unit.specs.Unit.{Reads}
 use Rattle.unit.specs.declared.Unit.the-variants as unit
 use Rattle.unit.proofs.Claims as units

@@ -12,7 +12,7 @@ use Rattle.tokenizer.specs.Step.{ofMessage}
 use Rattle.tokenizer.specs.declared.State.{State}
 use Rattle.tokenizer.specs.declared.Step.{Step}
 use Rattle.tokenizer.proofs.Claims as tokens
-use Rattle.header.specs.Seen.{aheadOf, seenAt}
+use Rattle.ahead.specs.Seen.{aheadOf, seenAt}
 use Rattle.unit.specs.Unit.{Reads}
 use Rattle.unit.specs.declared.Unit.{Unit}
 use Rattle.unit.specs.declared.Unit.the-variants as unit

@@ -12,8 +12,8 @@ use Rattle.error.specs.declared.ErrorCode.the-variants as refusal
 use Rattle.node.specs.Tree.{branch}
 use Rattle.tokenizer.specs.Step.{ofMessage}
 use Rattle.tokenizer.specs.declared.State.{State}
-use Rattle.header.specs.Seen.{seenAt}
-use Rattle.header.specs.declared.Seen.{Seen}
+use Rattle.ahead.specs.Seen.{seenAt}
+use Rattle.ahead.specs.declared.Seen.{Seen}
 use Rattle.unit.specs.Unit.{Reads}
 use Rattle.unit.specs.declared.Unit.{Unit}
 use Rattle.unit.specs.declared.Unit.the-variants as unit

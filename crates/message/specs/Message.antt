@@ -13,11 +13,11 @@ use Rattle.table.specs.Fault.{Accepted, Verdict}
 use Rattle.table.specs.declared.Checked.the-variants as checked
 use Rattle.tokenizer.specs.Step.{ofMessage}
 use Rattle.tokenizer.specs.declared.State.{State}
-use Rattle.header.specs.Seen.{seenAt}
-use Rattle.header.specs.declared.Stop.{Stop}
-use Rattle.header.specs.declared.Stop.the-variants as stop
-use Rattle.header.specs.declared.Ahead.{Ahead}
-use Rattle.header.specs.declared.Ahead.the-variants as ahead
+use Rattle.ahead.specs.Seen.{seenAt}
+use Rattle.ahead.specs.declared.Stop.{Stop}
+use Rattle.ahead.specs.declared.Stop.the-variants as stop
+use Rattle.ahead.specs.declared.Ahead.{Ahead}
+use Rattle.ahead.specs.declared.Ahead.the-variants as ahead
 use Rattle.unit.specs.Unit.{Reads}
 use Rattle.unit.specs.declared.Unit.the-variants as unit
 use Rattle.record.specs.Word.{wordOf}

@@ -4,9 +4,9 @@ ghost use mathlib.Core.Path.{_≡_};
 ghost use lib.ListN.{length, set};
 ghost use Rattle.message.specs.Message.{isText, isEnd, Units, Message, CheckedMessage, Walks};
 ghost use Rattle.tokenizer.specs.Step.{ofMessage};
+use ahead::Ahead;
+use ahead::Stop;
 use error::ErrorCode;
-use header::Ahead;
-use header::Stop;
 use table::Checked;
 use unit::Unit;
 
@@ -60,7 +60,7 @@ fn walk_units(nodes: &[u64], names: &[u8], start: usize, s: &[u8], slots: &mut [
     let mut kept = start;
     let mut state = tokenizer::new();
     loop {
-        let seen = header::look(s, state);
+        let seen = ahead::look(s, state);
         let ahead = seen.ahead;
         if is_end(ahead) {
             return Walked::Units(units);

@@ -17,10 +17,10 @@ use Rattle.enclosed.specs.Expression.{inExpression, bracketed, expressionData}
 use Rattle.separator.specs.Separator.{colonTo, followsColon, questionTo, followsQuery}
 use Rattle.tokenizer.specs.Step.{stateOf, taken, refusal, ended, readAs, passed, colonBefore, questionBefore, wordAt, byKind, step, ofMessage}
 use Rattle.tokenizer.specs.declared.State.{State}
-use Rattle.header.specs.Seen.{seenAt}
+use Rattle.ahead.specs.Seen.{seenAt}
 use Rattle.header.specs.Header.{turnOf, behindColon, keeping, Begins}
-use Rattle.header.specs.declared.Stop.{Stop}
-use Rattle.header.specs.declared.Stop.the-variants as stop
+use Rattle.ahead.specs.declared.Stop.{Stop}
+use Rattle.ahead.specs.declared.Stop.the-variants as stop
 use Rattle.header.specs.declared.Header.{Header}
 use Rattle.header.specs.declared.Header.the-variants as header
 use Rattle.header.proofs.Claims as headers

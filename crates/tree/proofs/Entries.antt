@@ -15,10 +15,10 @@ use Rattle.table.specs.declared.Checked.the-variants as checked
 use Rattle.table.proofs.Told.{faultless}
 use Rattle.tokenizer.specs.Step.{ofMessage}
 use Rattle.tokenizer.specs.declared.State.{State}
-use Rattle.header.specs.Seen.{seenAt}
+use Rattle.ahead.specs.Seen.{seenAt}
 use Rattle.header.specs.Header.{Begins}
-use Rattle.header.specs.declared.Stop.{Stop}
-use Rattle.header.specs.declared.Seen.{Seen}
+use Rattle.ahead.specs.declared.Stop.{Stop}
+use Rattle.ahead.specs.declared.Seen.{Seen}
 use Rattle.header.specs.declared.Header.{Header}
 use Rattle.header.specs.declared.Header.the-variants as header
 use Rattle.tree.specs.Alone.{aloneWith, closing, Resolves, no-branch, too-long, one-header, ResolvesAlone, fault, sound}

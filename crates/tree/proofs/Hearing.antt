@@ -16,12 +16,12 @@ use Rattle.branch.specs.declared.Pick.the-variants as pick
 use Rattle.token.specs.View.{partOf, viewOf}
 use Rattle.token.specs.declared.View.{View}
 use Rattle.tokenizer.specs.declared.State.{State}
-use Rattle.header.specs.Seen.{seenWith, seenAt}
+use Rattle.ahead.specs.Seen.{seenWith, seenAt}
 use Rattle.header.specs.Header.{behindQuery, queryAnswer, atLeaf, leafAnswer, atBranch, turnOf, undefined, Reads, leaf, refused, said, unsaid, unknown, ended, nowhere}
-use Rattle.header.specs.declared.Stop.{Stop}
-use Rattle.header.specs.declared.Ahead.{Ahead}
-use Rattle.header.specs.declared.Ahead.the-variants as ahead
-use Rattle.header.specs.declared.Seen.{Seen}
+use Rattle.ahead.specs.declared.Stop.{Stop}
+use Rattle.ahead.specs.declared.Ahead.{Ahead}
+use Rattle.ahead.specs.declared.Ahead.the-variants as ahead
+use Rattle.ahead.specs.declared.Seen.{Seen}
 use Rattle.header.specs.declared.Turn.{Turn}
 use Rattle.header.specs.declared.Turn.the-variants as turn
 use Rattle.header.specs.declared.Header.{Header}

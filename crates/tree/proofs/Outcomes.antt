@@ -12,7 +12,7 @@ use Rattle.node.specs.Tree.{branch, default, nameOf, Child, child}
 use Rattle.table.specs.Claims.{Tree}
 use Rattle.tokenizer.specs.declared.State.{State}
 use Rattle.header.specs.Header.{undefined}
-use Rattle.header.specs.declared.Stop.{Stop}
+use Rattle.ahead.specs.declared.Stop.{Stop}
 use Rattle.header.specs.declared.Header.{Header}
 use Rattle.header.specs.declared.Header.the-variants as header
 use Rattle.tree.specs.Route.{Stage, Route, here, said, unsaid}

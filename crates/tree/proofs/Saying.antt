@@ -9,11 +9,11 @@ use Rattle.token.specs.declared.Token.{Token}
 use Rattle.tokenizer.specs.Step.{step}
 use Rattle.tokenizer.specs.declared.Answer.the-variants as answer
 use Rattle.tokenizer.specs.declared.State.{State}
-use Rattle.header.specs.Seen.{tokenAhead, aheadOf, seenAt}
+use Rattle.ahead.specs.Seen.{tokenAhead, aheadOf, seenAt}
 use Rattle.header.specs.Header.{wordBehind, behindColon, atBranch, turnOf}
-use Rattle.header.specs.declared.Stop.the-variants as end
-use Rattle.header.specs.declared.Ahead.the-variants as ahead
-use Rattle.header.specs.declared.Seen.{Seen}
+use Rattle.ahead.specs.declared.Stop.the-variants as end
+use Rattle.ahead.specs.declared.Ahead.the-variants as ahead
+use Rattle.ahead.specs.declared.Seen.{Seen}
 use Rattle.tree.specs.WellFormed.{Tokens, no-more, next, Shown, event, query, then}
 use Rattle.tree.specs.Heard.{Hears, stop, asked, word}
 

@@ -10,10 +10,10 @@ use Rattle.node.specs.Tree.{branch}
 use Rattle.table.specs.Fault.{Accepted, Verdict}
 use Rattle.table.specs.declared.Checked.the-variants as checked
 use Rattle.tokenizer.specs.Step.{ofMessage}
-use Rattle.header.specs.Seen.{seenAt}
+use Rattle.ahead.specs.Seen.{seenAt}
 use Rattle.header.specs.Header.{Begins}
-use Rattle.header.specs.declared.Stop.{Stop}
-use Rattle.header.specs.declared.Stop.the-variants as stop
+use Rattle.ahead.specs.declared.Stop.{Stop}
+use Rattle.ahead.specs.declared.Stop.the-variants as stop
 use Rattle.header.specs.declared.Header.{Header}
 use Rattle.header.specs.declared.Header.the-variants as header
 use Rattle.tree.specs.declared.Resolved.{Resolved}

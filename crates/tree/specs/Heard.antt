@@ -7,11 +7,11 @@ use mathlib.Core.Bool.{Bool, true, false}
 use Rattle.token.specs.View.{partOf}
 use Rattle.token.specs.declared.View.{View}
 use Rattle.tokenizer.specs.declared.State.{State}
-use Rattle.header.specs.Seen.{seenAt}
+use Rattle.ahead.specs.Seen.{seenAt}
 use Rattle.header.specs.Header.{turnOf, isCommon}
-use Rattle.header.specs.declared.Stop.{Stop}
-use Rattle.header.specs.declared.Ahead.the-variants as ahead
-use Rattle.header.specs.declared.Seen.{Seen}
+use Rattle.ahead.specs.declared.Stop.{Stop}
+use Rattle.ahead.specs.declared.Ahead.the-variants as ahead
+use Rattle.ahead.specs.declared.Seen.{Seen}
 use Rattle.header.specs.declared.Turn.the-variants as turn
 
 -- the words from what is seen on, each with a colon before it or not, and then the end of the header: its form, what ends it, and the

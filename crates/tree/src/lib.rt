@@ -1,9 +1,9 @@
 // Resolution alone: one header, from a branch of a table down to its command. `Node::run` of tree/mod.rs of the original.
 ghost use mathlib.Core.Path.{_≡_};
 ghost use Rattle.tree.specs.Alone.{aloneWith, Resolves, ResolvesAlone};
+use ahead::Stop;
 use error::ErrorCode;
 use header::Header;
-use header::Stop;
 use table::Checked;
 
 // The command that a header names, its form and the branch kept; or a refusal.
@@ -38,7 +38,7 @@ pub fn resolve_accepted(nodes: &[u64], names: &[u8], start: usize, s: &[u8]) -> 
         return Resolved::Refused(ErrorCode::MessageTooLong);
     }
     let state = tokenizer::new();
-    match header::resolve(nodes, names, s, start, header::look(s, state)) {
+    match header::resolve(nodes, names, s, start, ahead::look(s, state)) {
         Header::Refused(e) => Resolved::Refused(e),
         Header::Found {
             command,

@@ -7,8 +7,8 @@ use Rattle.error.specs.declared.ErrorCode.{ErrorCode}
 use Rattle.error.specs.declared.ErrorCode.the-variants.{SyntaxError}
 use Rattle.tokenizer.specs.declared.State.{State}
 use Rattle.header.specs.Header.{Begins}
-use Rattle.header.specs.declared.Seen.{Seen}
-use Rattle.header.specs.declared.Stop.{Stop}
+use Rattle.ahead.specs.declared.Seen.{Seen}
+use Rattle.ahead.specs.declared.Stop.{Stop}
 use Rattle.header.specs.declared.Header.{Header}
 use Rattle.header.specs.declared.Header.the-variants as header
 use Rattle.header.proofs.Claims.{claims}

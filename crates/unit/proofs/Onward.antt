@@ -11,8 +11,8 @@ use Rattle.node.specs.Tree.{branch}
 use Rattle.tokenizer.specs.declared.State.{State}
 use Rattle.tokenizer.specs.declared.Step.{Step}
 use Rattle.tokenizer.proofs.Claims as tokens
-use Rattle.header.specs.declared.Seen.{Seen}
-use Rattle.header.specs.declared.Stop.{Stop}
+use Rattle.ahead.specs.declared.Seen.{Seen}
+use Rattle.ahead.specs.declared.Stop.{Stop}
 use Rattle.header.proofs.Claims as headers
 use Rattle.record.specs.declared.Record.{Record}
 use Rattle.unit.specs.Entry.{metWith, metAt}

@@ -6,9 +6,9 @@ use native.Mathlib.Omega.{arith}
 use lib.ListN.{length}
 use Rattle.tokenizer.specs.declared.State.{State}
 use Rattle.header.specs.Header.{Begins}
-use Rattle.header.specs.declared.Seen.{Seen}
-use Rattle.header.specs.declared.Stop.{Stop}
-use Rattle.header.specs.declared.Stop.the-variants as stop
+use Rattle.ahead.specs.declared.Seen.{Seen}
+use Rattle.ahead.specs.declared.Stop.{Stop}
+use Rattle.ahead.specs.declared.Stop.the-variants as stop
 use Rattle.header.specs.declared.Header.{Header}
 use Rattle.header.specs.declared.Header.the-variants as header
 use Rattle.header.proofs.Claims.{claims}

@@ -6,7 +6,7 @@ use mathlib.Core.Bool.{true}
 use lib.ListN.{length}
 use Rattle.node.specs.Tree.{branch}
 use Rattle.tokenizer.specs.declared.State.{State}
-use Rattle.header.specs.declared.Seen.{Seen}
+use Rattle.ahead.specs.declared.Seen.{Seen}
 use Rattle.record.specs.declared.Record.{Record}
 use Rattle.unit.specs.Unit.{Reads}
 use Rattle.unit.specs.declared.Unit.{Unit}

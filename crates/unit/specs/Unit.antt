@@ -5,9 +5,9 @@ use mathlib.Core.Bool.{Bool}
 use Rattle.error.specs.declared.ErrorCode.{ErrorCode}
 use Rattle.tokenizer.specs.declared.State.{State}
 use Rattle.header.specs.Header.{Begins}
-use Rattle.header.specs.declared.Seen.{Seen}
-use Rattle.header.specs.declared.Stop.{Stop}
-use Rattle.header.specs.declared.Stop.the-variants as stop
+use Rattle.ahead.specs.declared.Seen.{Seen}
+use Rattle.ahead.specs.declared.Stop.{Stop}
+use Rattle.ahead.specs.declared.Stop.the-variants as stop
 use Rattle.header.specs.declared.Header.the-variants as header
 use Rattle.record.specs.declared.Record.{Record}
 use Rattle.unit.specs.Items.{Items}

@@ -9,7 +9,7 @@ use Rattle.header.proofs.+descend.Lts-descend as descend-lts
 use Rattle.branch.proofs.default_child.Reads as default-child-reads
 use Rattle.branch.proofs.spoken_child.Reads as spoken-child-reads
 use Rattle.header.proofs.leaf.Reads as leaf-reads
-use Rattle.header.proofs.look.Reads as look-reads
+use Rattle.ahead.proofs.look.Reads as look-reads
 use Rattle.header.proofs.turn_at.Reads as turn-at-reads
 use Rattle.node.proofs.command_number.Reads as command-number-reads
 use Rattle.node.proofs.is_branch.Reads as is-branch-reads

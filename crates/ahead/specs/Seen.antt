@@ -8,10 +8,10 @@ use Rattle.tokenizer.specs.Step.{step}
 use Rattle.tokenizer.specs.declared.Answer.{Answer}
 use Rattle.tokenizer.specs.declared.Answer.the-variants as answer
 use Rattle.tokenizer.specs.declared.State.{State}
-use Rattle.header.specs.declared.Stop.the-variants as stop
-use Rattle.header.specs.declared.Ahead.{Ahead}
-use Rattle.header.specs.declared.Ahead.the-variants as ahead
-use Rattle.header.specs.declared.Seen.{Seen}
+use Rattle.ahead.specs.declared.Stop.the-variants as stop
+use Rattle.ahead.specs.declared.Ahead.{Ahead}
+use Rattle.ahead.specs.declared.Ahead.the-variants as ahead
+use Rattle.ahead.specs.declared.Seen.{Seen}
 
 -- What a token is to a header. Data and a comma have no place there, and are -102; of these only an expression comes out of the token
 -- step in a header.

@@ -1,6 +1,6 @@
-use Rattle.header.proofs.Tokens.{laws}
-use Rattle.header.proofs.answer_ahead.Statement.{statement}
-use Rattle.header.proofs.answer_ahead.Tie as tie
+use Rattle.ahead.proofs.Tokens.{laws}
+use Rattle.ahead.proofs.answer_ahead.Statement.{statement}
+use Rattle.ahead.proofs.answer_ahead.Tie as tie
 
 enum-told : tie.Need-enum-told
 enum-told c = search laws

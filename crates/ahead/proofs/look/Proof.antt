@@ -1,6 +1,6 @@
-use Rattle.header.proofs.Tokens.{laws}
-use Rattle.header.proofs.look.Statement.{statement}
-use Rattle.header.proofs.look.Tie as tie
+use Rattle.ahead.proofs.Tokens.{laws}
+use Rattle.ahead.proofs.look.Statement.{statement}
+use Rattle.ahead.proofs.look.Tie as tie
 
 next-requires : tie.Need-next-requires
 next-requires c κs = search laws

@@ -1,6 +1,6 @@
-use Rattle.header.proofs.Tokens.{laws}
-use Rattle.header.proofs.token_ahead.Statement.{statement}
-use Rattle.header.proofs.token_ahead.Tie as tie
+use Rattle.ahead.proofs.Tokens.{laws}
+use Rattle.ahead.proofs.token_ahead.Statement.{statement}
+use Rattle.ahead.proofs.token_ahead.Tie as tie
 
 enum-known-token : tie.Need-enum-known-token
 enum-known-token c = search laws

@@ -8,6 +8,7 @@ use Rattle.tokenizer.specs.Step.{step}
 use Rattle.tokenizer.specs.declared.Answer.{Answer}
 use Rattle.tokenizer.specs.declared.Answer.the-variants as answer
 use Rattle.tokenizer.specs.declared.State.{State}
+use Rattle.tokenizer.specs.declared.Step.{Step}
 use Rattle.ahead.specs.declared.Stop.the-variants as stop
 use Rattle.ahead.specs.declared.Ahead.{Ahead}
 use Rattle.ahead.specs.declared.Ahead.the-variants as ahead
@@ -39,6 +40,10 @@ aheadOf (answer.Refused e) = ahead.Refused e
 abbrev pub seenWith : Ahead → State → Seen
 seenWith a st = record { ahead = a; state = st }
 
+-- a step as a header sees it
+abbrev pub seenOf : Step → Seen
+seenOf x = seenWith (aheadOf (x .answer)) (x .state)
+
 -- what is ahead from a state on, and the state behind that
 unfoldable pub seenAt : List ℕ → State → Seen
-seenAt s st = seenWith (aheadOf ((step s st) .answer)) ((step s st) .state)
+seenAt s st = seenOf (step s st)

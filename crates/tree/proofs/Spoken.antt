@@ -1,19 +1,18 @@
 -- The token step reads a well-formed header as its mnemonics.
 use Prim.Native.Nat.{ℕ, suc, _+_, _-_, _≤_, _<_}
 use mathlib.Core.Path.{_≡_, refl, sym, ap, _∙_}
-use mathlib.Core.Logic.{_⊎_, inl, inr, ⊎-elim}
+use mathlib.Core.Logic.{⊎-elim}
 use mathlib.Core.List.{List, [], _∷_, _++_, append-assoc}
 use mathlib.Core.Bool.{Bool, true, false, cond, not, _||_, false≢true}
 use native.Mathlib.Omega.{arith}
-use lib.Dec.{eqb, leb}
+use lib.Dec.{leb}
 use lib.ListN.{length, getD, drop, length-append}
 use lib.Seq.{take-append-seam}
-use borrow.Author.Tests.{eqb-true, le-leb, leb-true}
+use borrow.Author.Tests.{le-leb}
 use Rattle.kind.specs.Text.{ascii}
-use Rattle.kind.specs.Class.{isWhiteSpace, isCapital, isSmall, isDigit, isLetter, inMnemonic, isSign, isQuote, isAscii}
+use Rattle.kind.specs.Class.{isWhiteSpace, isCapital, isSmall, isDigit, isLetter, inMnemonic}
 use Rattle.kind.specs.Kind.{kindOf}
-use Rattle.kind.proofs.Bytes.{agrees}
-use Rattle.kind.proofs.Tests.{either, or-right, and-right}
+use Rattle.kind.proofs.Tests.{or-right}
 use Rattle.util.specs.Run.{runEnd, every}
 use Rattle.token.specs.View.{viewOf, partOf}
 use Rattle.token.specs.declared.View.{View}
@@ -28,29 +27,9 @@ use Rattle.tokenizer.specs.Step.{stateOf, ofMessage, taken, readAs, passed, col
 use Rattle.tokenizer.specs.declared.State.{State}
 use Rattle.tokenizer.specs.declared.Answer.the-variants as answer
 use Rattle.tokenizer.specs.declared.Step.{Step}
+use Rattle.tokenizer.proofs.Starts.{letter-kind}
 use Rattle.tokenizer.proofs.Steps.{end′, star′, colon′, question′, small′, capital′}
 use Rattle.tree.specs.WellFormed.{Mnemonic, Joined, last, before, WellFormed, Common, Tokens, no-more, next, Shown, event, query, then}
-
--- letters have one of two kinds
-
-kindsOf : ℕ → Bool
-kindsOf b = not (isLetter b) || (eqb (kindOf b) 16 || eqb (kindOf b) 17)
-
-letter-below : (b : ℕ) → isLetter b ≡ true → b < 123
-unfolding isLetter isCapital isSmall
-letter-below b e =
-    ⊎-elim (λ k. omega (arith, leb-true b 90 (and-right (leb 65 b) (leb b 90) k))) (λ k. omega (arith, leb-true b 122 (and-right (leb 97 b) (leb b 122) k)))
-    (either (isCapital b) (isSmall b) e)
-
-of-kinds : (b : ℕ) → b < 123 → kindsOf b ≡ true
-unfolding kindsOf kindOf isLetter isWhiteSpace isCapital isSmall isDigit isSign isQuote isAscii
-of-kinds b h = agrees kindsOf (λ _. true) 123 b tt h
-
-letter-kind : (b : ℕ) → isLetter b ≡ true → (kindOf b ≡ 16) ⊎ (kindOf b ≡ 17)
-unfolding kindsOf
-letter-kind b e =
-    ⊎-elim (λ k. inl (eqb-true (kindOf b) 16 k)) (λ k. inr (eqb-true (kindOf b) 17 k))
-    (either (eqb (kindOf b) 16) (eqb (kindOf b) 17) (rw e at (of-kinds b (letter-below b e))))
 
 -- the state in a header, at a place
 abbrev inHeaderAt : ℕ → State

@@ -1,34 +1,26 @@
 -- Laws of the classes of single characters.
-use Prim.Native.Nat.{ℕ, _+_}
-use mathlib.Core.Path.{_≡_, sym, _∙_}
+use Prim.Native.Nat.{ℕ, _+_, _≤_}
+use mathlib.Core.Path.{_≡_, refl, sym, _∙_}
 use mathlib.Core.List.{List, [], _∷_}
-use mathlib.Core.Bool.{Bool, true, false, not, and-true}
+use mathlib.Core.Bool.{Bool, true, false, cond, not, and-true}
 use native.Mathlib.Omega.{arith}
 use lib.Dec.{eqb, leb}
 use lib.ListN.{length, getD}
 use mir.Syntax.{w8}
 use mir.Val.{Fits}
 use borrow.Author.Needs.{needs}
-use borrow.Author.Tests.{leb-true}
+use borrow.Author.Tests.{leb-true, eq-eqb, ne-eqb}
 use Rattle.kind.specs.Class.{isCapital, isSmall, isDigit}
-use Rattle.kind.proofs.Tests.{and-right}
+use Rattle.kind.proofs.Tests.{and-left, and-right}
 use Rattle.kind.proofs.Classes.{small-no-capital, small-no-digit, digit-no-capital, capital-no-small}
 use Rattle.mnemonic.specs.Mnemonic.{pairs, folded, eitherCase, notSmall, mayLeaveOut}
 use Rattle.mnemonic.proofs.Pairs.{differ}
 
 module _ (b : ℕ) (r : Bool) where
   module _ (e : r ≡ isCapital b) where
-    pub folded-capital′ : r ≡ true → b + 32 ≡ folded b
-    unfolding folded
-    folded-capital′ q = rw (← e, q)
-
     pub folded-fits′ : r ≡ true → Fits w8 (b + 32)
     unfolding isCapital
     folded-fits′ q = record { fits = omega (arith, leb-true b 90 (and-right (leb 65 b) (leb b 90) (sym e ∙ q))) }
-
-    pub folded-other′ : r ≡ false → b ≡ folded b
-    unfolding folded
-    folded-other′ q = rw (← e, q)
 
     pub left-out-capital′ : r ≡ true → false ≡ mayLeaveOut b
     unfolding mayLeaveOut
@@ -42,9 +34,31 @@ module _ (b : ℕ) (r : Bool) where
   unfolding notSmall
   not-small′ e = rw e
 
-pub is-either-case′ : (c d x y : ℕ) → x ≡ folded c → y ≡ folded d → eqb x y ≡ eitherCase c d
-unfolding eitherCase
-is-either-case′ c d x y e f = rw (e, f)
+module _ (c d : ℕ) where
+  pub one-character′ : c ≡ d → true ≡ eitherCase c d
+  unfolding eitherCase
+  one-character′ h = rw h (sym (eq-eqb (folded d) (folded d) refl))
+
+  module _ (apart : c ≡ d → ⊥) (x : Bool) (cap : x ≡ isCapital c) where
+    pub first-capital′ : x ≡ true → eqb (c + 32) d ≡ eitherCase c d
+    unfolding eitherCase folded isCapital
+    first-capital′ q = rw (← cap, q) (go (isCapital d) refl)
+      where
+        go : (y : Bool) → isCapital d ≡ y → eqb (c + 32) d ≡ eqb (c + 32) (cond y (d + 32) d)
+        go true e =
+            let low : 65 ≤ c = leb-true 65 c (and-left (leb 65 c) (leb c 90) (sym cap ∙ q)) in
+            let high : d ≤ 90 = leb-true d 90 (and-right (leb 65 d) (leb d 90) e) in
+            ne-eqb (c + 32) d (λ h. omega (arith, h, low, high)) ∙ sym (ne-eqb (c + 32) (d + 32) (λ h. apart (omega (arith, h))))
+        go false e = refl
+
+    module _ (q : x ≡ false) (y : Bool) (cap′ : y ≡ isCapital d) where
+      pub second-capital′ : y ≡ true → eqb c (d + 32) ≡ eitherCase c d
+      unfolding eitherCase folded
+      second-capital′ p = rw (← cap, q, ← cap′, p)
+
+      pub no-capital′ : y ≡ false → false ≡ eitherCase c d
+      unfolding eitherCase folded
+      no-capital′ p = rw (← cap, q, ← cap′, p) (sym (ne-eqb c d apart))
 
 module _ (s : List ℕ) where
   pub one-long′ : (length s ≡ 1 → ⊥) → false ≡ pairs eqb s (49 ∷ [])
@@ -80,4 +94,6 @@ module _ (b : ℕ) where
   unfolding notSmall
   small-is-small e = rw e
 
-pub ruleset laws = (needs, folded-capital′, folded-fits′, folded-other′, left-out-capital′, left-out-other′, not-small′, is-either-case′, one-long′, one-is′)
+pub ruleset case-laws = (needs, folded-fits′, one-character′, first-capital′, second-capital′, no-capital′)
+
+pub ruleset laws = (needs, left-out-capital′, left-out-other′, not-small′, one-long′, one-is′)

@@ -2,23 +2,22 @@
 ghost use mathlib.Core.Path.{_≡_};
 ghost use Rattle.kind.specs.Text.{ascii};
 ghost use Rattle.util.specs.Run.{every};
-ghost use Rattle.mnemonic.specs.Mnemonic.{folded, eitherCase, alike, same, notSmall, mayLeaveOut, compares, numericSuffixStart, sameNumericSuffix, matchesParts, matches};
-
-// A letter without its case.
-fn lower(b: u8) -> u8
-    ensures { λ r. ⌜ r ≡ folded b ⌝ }
-{
-    if kind::is_capital(b) {
-        return b + 32;
-    }
-    b
-}
+ghost use Rattle.mnemonic.specs.Mnemonic.{eitherCase, alike, same, notSmall, mayLeaveOut, compares, numericSuffixStart, sameNumericSuffix, matchesParts, matches};
 
 // The same character, whichever case a letter is in.
 fn is_either_case(c: u8, d: u8) -> bool
     ensures { λ r. ⌜ r ≡ eitherCase c d ⌝ }
 {
-    lower(c) == lower(d)
+    if c == d {
+        return true;
+    }
+    if kind::is_capital(c) {
+        return c + 32 == d;
+    }
+    if kind::is_capital(d) {
+        return c == d + 32;
+    }
+    false
 }
 
 // Equal in either case of their letters.

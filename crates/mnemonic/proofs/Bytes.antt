@@ -16,6 +16,10 @@ use Rattle.kind.proofs.Classes.{small-no-capital, small-no-digit, digit-no-capi
 use Rattle.mnemonic.specs.Mnemonic.{pairs, folded, eitherCase, notSmall, mayLeaveOut}
 use Rattle.mnemonic.proofs.Pairs.{differ}
 
+pub small-left-out : (b : ℕ) → isSmall b ≡ true → mayLeaveOut b ≡ true
+unfolding mayLeaveOut
+small-left-out b e = rw (small-no-capital b e, small-no-digit b e)
+
 module _ (b : ℕ) (r : Bool) where
   module _ (e : r ≡ isCapital b) where
     pub folded-fits′ : r ≡ true → Fits w8 (b + 32)
@@ -30,9 +34,13 @@ module _ (b : ℕ) (r : Bool) where
     unfolding mayLeaveOut
     left-out-other′ d f q = rw (← e, q, f)
 
-  pub not-small′ : r ≡ isSmall b → not r ≡ notSmall b
-  unfolding notSmall
-  not-small′ e = rw e
+  module _ (e : r ≡ isSmall b) where
+    pub left-out-small′ : r ≡ true → true ≡ mayLeaveOut b
+    left-out-small′ q = sym (small-left-out b (sym e ∙ q))
+
+    pub not-small′ : not r ≡ notSmall b
+    unfolding notSmall
+    not-small′ = rw e
 
 module _ (c d : ℕ) where
   pub one-character′ : c ≡ d → true ≡ eitherCase c d
@@ -74,10 +82,6 @@ module _ (s : List ℕ) where
       go (c ∷ d ∷ s) h = absurd (omega arith)
 
 module _ (b : ℕ) where
-  pub small-left-out : isSmall b ≡ true → mayLeaveOut b ≡ true
-  unfolding mayLeaveOut
-  small-left-out e = rw (small-no-capital b e, small-no-digit b e)
-
   pub capital-needed : isCapital b ≡ true → mayLeaveOut b ≡ false
   unfolding mayLeaveOut
   capital-needed e = rw e
@@ -96,4 +100,4 @@ module _ (b : ℕ) where
 
 pub ruleset case-laws = (needs, folded-fits′, one-character′, first-capital′, second-capital′, no-capital′)
 
-pub ruleset laws = (needs, left-out-capital′, left-out-other′, not-small′, one-long′, one-is′)
+pub ruleset laws = (needs, left-out-small′, left-out-capital′, left-out-other′, not-small′, one-long′, one-is′)

@@ -79,6 +79,9 @@ fn has_no_small(s: &[u8]) -> bool
 fn may_leave_out(b: u8) -> bool
     ensures { λ r. ⌜ r ≡ mayLeaveOut b ⌝ }
 {
+    if kind::is_small(b) {
+        return true;
+    }
     if kind::is_capital(b) {
         return false;
     }

@@ -1,7 +1,7 @@
 -- Laws of `compares`, one for each way out of the comparison.
 use Prim.Native.Nat.{ℕ, _-_, _≤_, _<_}
 use mathlib.Core.Path.{_≡_, refl, sym, _∙_}
-use mathlib.Core.List.{List}
+use mathlib.Core.List.{List, _∷_}
 use mathlib.Core.Bool.{Bool, true, false, not, _&&_, _||_, false≢true}
 use native.Mathlib.Omega.{arith}
 use lib.ListN.{length, take, drop, length-take, length-drop}
@@ -19,6 +19,11 @@ part-long′ n m h = sym (length-take-le n m h)
 -- a part up to the end is all that is left
 pub to-end : (n : ℕ) (m : List ℕ) → take (length m - n) (drop n m) ≡ drop n m
 to-end n m = take-all (length m - n) (drop n m) (simp length-drop (omega arith))
+
+-- texts that begin with two characters do not compare
+pub begin-apart : (c d : ℕ) (m s : List ℕ) → eitherCase c d ≡ false → compares (c ∷ m) (d ∷ s) ≡ false
+unfolding compares pairs
+begin-apart c d m s e = rw e
 
 module _ (m s : List ℕ) where
   -- with no word of the mnemonic's own length only the short form is left

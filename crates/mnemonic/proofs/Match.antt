@@ -2,17 +2,17 @@
 use Prim.Native.Nat.{ℕ, _-_}
 use mathlib.Core.Path.{_≡_, refl, sym, _∙_}
 use mathlib.Core.List.{List, [], _∷_}
-use mathlib.Core.Bool.{Bool, true, false, not, _&&_, and-true, and-false, or-false}
+use mathlib.Core.Bool.{Bool, true, false, not, _&&_, and-true, and-false, or-false, false≢true}
 use native.Mathlib.Omega.{arith}
-use lib.ListN.{length, take, drop}
+use lib.ListN.{length, getD, take, drop}
 use lib.Seq.{take-length}
 use lib.Dec.{eqb}
 use borrow.Author.Needs.{needs}
 use borrow.Author.Tests.{not-true, not-false}
-use Rattle.mnemonic.specs.Mnemonic.{pairs, compares, numericSuffixStart, sameNumericSuffix, matches}
+use Rattle.mnemonic.specs.Mnemonic.{pairs, eitherCase, compares, numericSuffixStart, sameNumericSuffix, matches}
 use Rattle.mnemonic.proofs.Pairs.{differ}
-use Rattle.mnemonic.proofs.Split.{starts-within′}
-use Rattle.mnemonic.proofs.Compare.{part-long′, to-end}
+use Rattle.mnemonic.proofs.Split.{stem-some, starts-within′}
+use Rattle.mnemonic.proofs.Compare.{part-long′, to-end, begin-apart}
 
 empty : (x : List ℕ) → length x ≡ 0 → x ≡ []
 empty [] h = refl
@@ -47,6 +47,26 @@ module _ (m i s j : List ℕ) (o : Bool) (e : o ≡ sameNumericSuffix i j) where
   pub granted′ : not o ≡ false → (c : Bool) → c ≡ compares m s → c ≡ (compares m s && sameNumericSuffix i j)
   granted′ k c q = q ∙ sym (rw (← e, not-false o k) (and-true (compares m s)))
 
+-- texts that begin with two characters do not match, nor do their stems
+begin-unlike : (m s : List ℕ) → (length m ≡ 0 → ⊥) → (length s ≡ 0 → ⊥) → eitherCase (getD m 0 0) (getD s 0 0) ≡ false → matches m s ≡ false
+unfolding matches
+begin-unlike [] s h k e = absurd (h refl)
+begin-unlike (c ∷ m) [] h k e = absurd (k refl)
+begin-unlike (c ∷ m) (d ∷ s) h k e =
+    let x = stem-some c m in
+    let y = stem-some d s in
+    rw (begin-apart c d m s e, x .1, y .1, begin-apart c d (take (x .0) m) (take (y .0) s) e)
+
+module _ (m s : List ℕ) where
+  pub not-told′ : false ≡ true → matches m s ≡ false
+  not-told′ h = absurd (false≢true h)
+
+  pub unlike′ : (r : Bool) → (length m ≡ 0 → ⊥) → (length s ≡ 0 → ⊥) → r ≡ eitherCase (getD m 0 0) (getD s 0 0) → not r ≡ true → matches m s ≡ false
+  unlike′ r h k e q = begin-unlike m s h k (sym e ∙ not-true r q)
+
+  pub told′ : (r : Bool) → (r ≡ true → matches m s ≡ false) → r ≡ true → false ≡ matches m s
+  told′ r h q = sym (h q)
+
 module _ (m s : List ℕ) (a : Bool) (first : a ≡ compares m s) where
   pub at-once′ : a ≡ true → true ≡ matches m s
   unfolding matches
@@ -73,4 +93,6 @@ pub ruleset suffix-laws = (needs, none-none′, none-some′, some-none′, some
 
 pub ruleset parts-laws = (needs, refused′, granted′)
 
-pub ruleset laws = (needs, part-long′, starts-within′, at-once′, neither′, parts′, word-parts′)
+pub ruleset begin-laws = (needs, not-told′, unlike′)
+
+pub ruleset laws = (needs, told′, part-long′, starts-within′, at-once′, neither′, parts′, word-parts′)

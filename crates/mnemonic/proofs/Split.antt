@@ -107,6 +107,15 @@ last-plain (b ∷ s) h = go (every isDigit s) (isDigit b) refl (last-plain s) h
     go true false q ih h = (0, refl, q)
     go false e q ih h = let z = ih refl in (suc (z .0), ap suc (z .1), z .2)
 
+-- a text that is not empty has a stem that is not
+pub stem-some : (b : ℕ) (s : List ℕ) → (m : ℕ) × (numericSuffixStart (b ∷ s) ≡ suc m)
+unfolding numericSuffixStart
+stem-some b s = go (every isDigit (b ∷ s)) refl
+  where
+    go : (d : Bool) → every isDigit (b ∷ s) ≡ d → (m : ℕ) × (cond d (length (b ∷ s)) (lastEnd (b ∷ s)) ≡ suc m)
+    go true e = (length s, refl)
+    go false e = let z = last-plain (b ∷ s) e in (z .0, z .1)
+
 pub split-digits : (s : List ℕ) → every isDigit (drop (numericSuffixStart s) s) ≡ true
 unfolding numericSuffixStart every
 split-digits s = go (every isDigit s)

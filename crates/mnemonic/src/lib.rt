@@ -1,5 +1,6 @@
 // Mnemonics: which spoken word is which name. tokenizer/util.rs of the original.
 ghost use mathlib.Core.Path.{_≡_};
+ghost use mathlib.Core.Bool.{true, false};
 ghost use Rattle.kind.specs.Text.{ascii};
 ghost use Rattle.util.specs.Run.{every};
 ghost use Rattle.mnemonic.specs.Mnemonic.{eitherCase, alike, same, notSmall, mayLeaveOut, compares, numericSuffixStart, sameNumericSuffix, matchesParts, matches};
@@ -172,10 +173,26 @@ fn match_parts(stem: &[u8], suffix: &[u8], word: &[u8], number: &[u8]) -> bool
     mnemonic_compare(stem, word)
 }
 
+// Whether the texts begin with two characters that differ in more than case: then the word does not spell the mnemonic.
+fn begins_otherwise(mnemonic: &[u8], s: &[u8]) -> bool
+    ensures { λ r. ⌜ (r ≡ true → matches (now (mnemonic .entry)) (now (s .entry)) ≡ false) ⌝ }
+{
+    if mnemonic.len() == 0 {
+        return false;
+    }
+    if s.len() == 0 {
+        return false;
+    }
+    !is_either_case(mnemonic[0], s[0])
+}
+
 // Whether the word spells the mnemonic, its numeric suffix with it, as `TRIG1` spells `TRIGger`.
 pub fn mnemonic_match(mnemonic: &[u8], s: &[u8]) -> bool
     ensures { λ r. ⌜ r ≡ matches (now (mnemonic .entry)) (now (s .entry)) ⌝ }
 {
+    if begins_otherwise(mnemonic, s) {
+        return false;
+    }
     if mnemonic_compare(mnemonic, s) {
         return true;
     }

@@ -2,11 +2,17 @@ use Rattle.mnemonic.proofs.Match.{laws}
 use Rattle.mnemonic.proofs.mnemonic_match.Statement.{statement}
 use Rattle.mnemonic.proofs.mnemonic_match.Tie as tie
 
-mnemonic-compare-requires : tie.Need-mnemonic-compare-requires
-mnemonic-compare-requires c κs = search laws
+begins-otherwise-requires : tie.Need-begins-otherwise-requires
+begins-otherwise-requires c κs = search laws
 
 returns : tie.Need-returns
 returns c = search laws
+
+mnemonic-compare-requires : tie.Need-mnemonic-compare-requires
+mnemonic-compare-requires c κs = search laws
+
+returns-2 : tie.Need-returns-2
+returns-2 c = search laws
 
 mnemonic-split-index-requires : tie.Need-mnemonic-split-index-requires
 mnemonic-split-index-requires c κs = search laws
@@ -14,8 +20,8 @@ mnemonic-split-index-requires c κs = search laws
 mnemonic-split-index-requires-2 : tie.Need-mnemonic-split-index-requires-2
 mnemonic-split-index-requires-2 c κs = search laws
 
-returns-2 : tie.Need-returns-2
-returns-2 c = search laws
+returns-3 : tie.Need-returns-3
+returns-3 c = search laws
 
 sub-match-parts : tie.Need-sub-match-parts
 sub-match-parts c = search laws
@@ -41,8 +47,8 @@ part-match-parts-end-2 c = search laws
 match-parts-requires : tie.Need-match-parts-requires
 match-parts-requires c κs = search laws
 
-returns-3 : tie.Need-returns-3
-returns-3 c = search laws
+returns-4 : tie.Need-returns-4
+returns-4 c = search laws
 
 slice-aggregate-match-parts-2 : tie.Need-slice-aggregate-match-parts-2
 slice-aggregate-match-parts-2 c = search laws
@@ -71,18 +77,20 @@ part-match-parts-end-4 c = search laws
 match-parts-requires-2 : tie.Need-match-parts-requires-2
 match-parts-requires-2 c κs = search laws
 
-returns-4 : tie.Need-returns-4
-returns-4 c = search laws
+returns-5 : tie.Need-returns-5
+returns-5 c = search laws
 
 pub mnemonic-match-spec : {M : Type 1} → statement M
 mnemonic-match-spec =
     tie.close
     (tie.spec
-    mnemonic-compare-requires
+    begins-otherwise-requires
     returns
+    mnemonic-compare-requires
+    returns-2
     mnemonic-split-index-requires
     mnemonic-split-index-requires-2
-    returns-2
+    returns-3
     sub-match-parts
     part-match-parts-start
     part-match-parts-end
@@ -91,7 +99,7 @@ mnemonic-match-spec =
     part-match-parts-start-2
     part-match-parts-end-2
     match-parts-requires
-    returns-3
+    returns-4
     slice-aggregate-match-parts-2
     sub-match-parts-3
     part-match-parts-start-3
@@ -101,4 +109,4 @@ mnemonic-match-spec =
     part-match-parts-start-4
     part-match-parts-end-4
     match-parts-requires-2
-    returns-4)
+    returns-5)

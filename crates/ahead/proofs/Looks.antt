@@ -1,5 +1,5 @@
 -- Laws of looking ahead, as the code meets them.
-use Prim.Native.Nat.{ℕ, _+_, _<_}
+use Prim.Native.Nat.{ℕ, _+_, _≤_, _<_}
 use mathlib.Core.Path.{_≡_, refl, ap, _∙_}
 use mathlib.Core.List.{List}
 use mathlib.Core.Bool.{Bool, true, false}
@@ -20,8 +20,10 @@ use Rattle.separator.specs.declared.Pass.the-variants as pass
 use Rattle.tokenizer.specs.Step.{stateOf, inHeader, inCommon, taken, refusal, readAs, passed, step}
 use Rattle.tokenizer.specs.declared.State.{State}
 use Rattle.tokenizer.specs.declared.Step.{Step}
-use Rattle.tokenizer.proofs.Steps.{form-token′, form-refused′, pass-to′, pass-refused′, colon-is′, question-is′, word-header′, blank′, star′, colon′, question′, semicolon′, letter′}
+use Rattle.tokenizer.specs.declared.Answer.the-variants as answer
+use Rattle.tokenizer.proofs.Steps.{end′, form-token′, form-refused′, pass-to′, pass-refused′, colon-is′, question-is′, word-header′, blank′, star′, colon′, question′, semicolon′, letter′}
 use Rattle.ahead.specs.Seen.{tokenAhead, seenWith, seenOf, seenAt}
+use Rattle.ahead.specs.declared.Stop.the-variants as stop
 use Rattle.ahead.specs.declared.Ahead.{Ahead}
 use Rattle.ahead.specs.declared.Ahead.the-variants as ahead
 use Rattle.ahead.specs.declared.Seen.{Seen}
@@ -57,6 +59,9 @@ module _ (s : List ℕ) (st : State) (x : Seen) where
   unfolding seenAt
   seen-step y e ex = ex ∙ ap seenOf e
 
+  pub end-seen′ : length s ≤ st .place → x ≡ seenWith (ahead.Stop stop.Text) st → x ≡ seenAt s st
+  end-seen′ h ex = seen-step (record { answer = answer.End; state = st }) (end′ s st h) ex
+
   module _ (h : st .place < length s) where
     pub letter-seen′ : (b : Bool) → b ≡ isLetter (getD s (st .place) 0) → b ≡ true → inHeader st ≡ true → (r : Read) → r ≡ mnemonic s (st .place) → x ≡ seenOf (readAs s st (inCommon st) r) → x ≡ seenAt s st
     letter-seen′ b e q k r er ex = seen-step (readAs s st (inCommon st) r) (letter′ s st h b (readAs s st (inCommon st) r) e q (word-header′ s st (st .place) (readAs s st (inCommon st) r) k r er refl)) ex
@@ -87,4 +92,4 @@ module _ (s : List ℕ) (st : State) (x : Seen) where
       unfolding kindOf isWhiteSpace
       semicolon-seen′ e en ex = seen-step (taken ProgramMessageUnitSeparator next true false) (semicolon′ s st h (kindOf (getD s (st .place) 0)) refl (taken ProgramMessageUnitSeparator next true false) (rw e) (rw en)) ex
 
-pub ruleset looks = (needs, letter-seen′, star-seen′, colon-seen′, question-seen′, space-seen′, semicolon-seen′)
+pub ruleset looks = (needs, end-seen′, letter-seen′, star-seen′, colon-seen′, question-seen′, space-seen′, semicolon-seen′)

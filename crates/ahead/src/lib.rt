@@ -41,7 +41,10 @@ pub fn look(s: &[u8], state: State) -> Seen
 {
     let at = state.place;
     if s.len() <= at {
-        return step(s, state);
+        return Seen {
+            ahead: Ahead::Stop(Stop::Text),
+            state,
+        };
     }
     let b = s[at];
     if kind::is_letter(b) {

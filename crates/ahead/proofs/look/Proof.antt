@@ -2,9 +2,6 @@ use Rattle.ahead.proofs.Looks.{looks}
 use Rattle.ahead.proofs.look.Statement.{statement}
 use Rattle.ahead.proofs.look.Tie as tie
 
-step-requires : tie.Need-step-requires
-step-requires c κs = search looks
-
 returns : tie.Need-returns
 returns c = search looks
 
@@ -23,8 +20,8 @@ form-requires c κs = search looks
 returns-2 : tie.Need-returns-2
 returns-2 c = search looks
 
-step-requires-2 : tie.Need-step-requires-2
-step-requires-2 c κs = search looks
+step-requires : tie.Need-step-requires
+step-requires c κs = search looks
 
 returns-3 : tie.Need-returns-3
 returns-3 c = search looks
@@ -68,8 +65,8 @@ read-mnemonic-requires-2 c κs = search looks
 form-requires-2 : tie.Need-form-requires-2
 form-requires-2 c κs = search looks
 
-step-requires-3 : tie.Need-step-requires-3
-step-requires-3 c κs = search looks
+step-requires-2 : tie.Need-step-requires-2
+step-requires-2 c κs = search looks
 
 returns-4 : tie.Need-returns-4
 returns-4 c = search looks
@@ -93,14 +90,13 @@ pub look-spec : {M : Type 1} → statement M
 look-spec =
     tie.close
     (tie.spec
-    step-requires
     returns
     shared-slice-read-b
     is-letter-requires
     read-mnemonic-requires
     form-requires
     returns-2
-    step-requires-2
+    step-requires
     returns-3
     add-colon
     colon-requires
@@ -115,7 +111,7 @@ look-spec =
     taken-requires-2
     read-mnemonic-requires-2
     form-requires-2
-    step-requires-3
+    step-requires-2
     returns-4
     returns-5
     returns-6

@@ -1,5 +1,6 @@
 -- Laws that belong to no one function.
 pub mod Entries
+pub mod Meets
 pub mod Lists
 pub mod Units
 pub mod Some

@@ -8,6 +8,7 @@ use Rattle.tokenizer.specs.Step.{step}
 use Rattle.tokenizer.specs.declared.Answer.{Answer}
 use Rattle.tokenizer.specs.declared.Answer.the-variants as answer
 use Rattle.tokenizer.specs.declared.State.{State}
+use Rattle.tokenizer.specs.declared.Step.{Step}
 use Rattle.unit.specs.declared.Entry.{Entry}
 use Rattle.unit.specs.declared.Entry.the-variants as entry
 use Rattle.unit.specs.declared.Met.{Met}
@@ -39,6 +40,10 @@ entryOf (answer.Refused e) = entry.Refused e
 abbrev pub metWith : Entry → State → Met
 metWith x st = record { entry = x; state = st }
 
+-- a step as the data meet it
+abbrev pub metOf : Step → Met
+metOf x = metWith (entryOf (x .answer)) (x .state)
+
 -- what is met from a state on, and the state behind that
 unfoldable pub metAt : List ℕ → State → Met
-metAt s st = metWith (entryOf ((step s st) .answer)) ((step s st) .state)
+metAt s st = metOf (step s st)

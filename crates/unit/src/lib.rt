@@ -1,13 +1,17 @@
 // Message units: a header and its items of data. `run_tokens` and `Parameters` of tree/mod.rs of the original.
 ghost use mathlib.Core.Path.{_≡_};
-ghost use Rattle.unit.specs.Entry.{tokenEntry, entryOf, metAt};
+ghost use Rattle.enclosed.specs.Expression.{expressionData};
+ghost use Rattle.tokenizer.specs.Step.{inCommon, refusal, readAs, commaBefore};
+ghost use Rattle.unit.specs.Entry.{tokenEntry, entryOf, metOf, metAt};
 ghost use Rattle.unit.specs.Items.{Items, Joined};
 ghost use Rattle.unit.specs.Unit.{Behind, Reads};
 use ahead::Seen;
 use ahead::Stop;
 use error::ErrorCode;
 use header::Header;
+use item::Read;
 use record::Record;
+use separator::Pass;
 use token::Token;
 use tokenizer::Answer;
 use tokenizer::State;
@@ -126,8 +130,35 @@ fn joined(s: &[u8], first: State) -> Data
     }
 }
 
-// What the next token is among the items, and the state behind it.
+// What the next token is among the items, and the state behind it. Separators and expressions are read here at once, and the rest by
+// the token step.
 fn meet(s: &[u8], state: State) -> Met
+    ensures { λ r. ⌜ r ≡ metAt (now (s .entry)) state ⌝ }
+{
+    let at = state.place;
+    if s.len() <= at {
+        return Met {
+            entry: Entry::End,
+            state,
+        };
+    }
+    match s[at] {
+        b',' => comma(s, at + 1, state),
+        b';' => Met {
+            entry: Entry::End,
+            state: State {
+                place: util::skip_ws(s, at + 1),
+                in_header: true,
+                in_common: false,
+            },
+        },
+        b'(' => expression(s, at + 1, state),
+        _ => step(s, state),
+    }
+}
+
+// The token step as the items meet it.
+fn step(s: &[u8], state: State) -> Met
     ensures { λ r. ⌜ r ≡ metAt (now (s .entry)) state ⌝ }
 {
     let step = tokenizer::next(s, state);
@@ -136,6 +167,58 @@ fn meet(s: &[u8], state: State) -> Met
     Met {
         entry: answer_entry(answer),
         state,
+    }
+}
+
+// A comma before a place.
+fn comma(s: &[u8], at: usize, state: State) -> Met
+    ensures { λ r. ⌜ r ≡ metOf (commaBefore (now (s .entry)) state at) ⌝ }
+{
+    match separator::comma(s, at, state.in_header) {
+        Pass::To(next) => {
+            return Met {
+                entry: Entry::Comma,
+                state: State {
+                    place: next,
+                    in_header: state.in_header,
+                    in_common: state.in_common,
+                },
+            }
+        }
+        Pass::Refused(e) => return refused(s, state, e),
+    }
+}
+
+// A bracket before a place begins an expression.
+fn expression(s: &[u8], at: usize, state: State) -> Met
+    ensures { λ r. ⌜ r ≡ metOf (readAs (now (s .entry)) state (inCommon state) (expressionData (now (s .entry)) at)) ⌝ }
+{
+    match enclosed::read_expression_data(s, at) {
+        Read::Token { token, next } => {
+            return Met {
+                entry: token_entry(token),
+                state: State {
+                    place: next,
+                    in_header: state.in_header,
+                    in_common: state.in_common,
+                },
+            }
+        }
+        Read::Refused(e) => return refused(s, state, e),
+    }
+}
+
+// A refusal ends the text.
+fn refused(s: &[u8], state: State, e: ErrorCode) -> Met
+    ensures { λ r. ⌜ r ≡ metOf (refusal (now (s .entry)) state e) ⌝ }
+{
+    Met {
+        entry: Entry::Refused(e),
+        state: State {
+            place: s.len(),
+            in_header: state.in_header,
+            in_common: state.in_common,
+        },
     }
 }
 

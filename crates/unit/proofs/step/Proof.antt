@@ -1,0 +1,15 @@
+use Rattle.unit.proofs.Entries.{laws}
+use Rattle.unit.proofs.step.Statement.{statement}
+use Rattle.unit.proofs.step.Tie as tie
+
+next-requires : tie.Need-next-requires
+next-requires c κs = search laws
+
+answer-entry-requires : tie.Need-answer-entry-requires
+answer-entry-requires c κs = search laws
+
+returns : tie.Need-returns
+returns c = search laws
+
+pub step-spec : {M : Type 1} → statement M
+step-spec = tie.close (tie.spec next-requires answer-entry-requires returns)

@@ -1,0 +1,50 @@
+-- Laws of the words of a step, as the code meets them.
+use Prim.Native.Nat.{ℕ, _≤_, _<_}
+use mathlib.Core.Path.{_≡_, refl}
+use mathlib.Core.List.{List, [], _∷_}
+use mathlib.Core.Bool.{Bool}
+use native.Mathlib.Nat.{lt-of-lt-of-le}
+use native.Mathlib.Omega.{arith}
+use lib.IntN.{ℤ}
+use lib.ListN.{length, drop, set, length-set}
+use lib.Dec.{lit<}
+use borrow.Author.Needs.{needs}
+use Rattle.error.specs.Code.{codeOf}
+use Rattle.error.specs.declared.ErrorCode.{ErrorCode}
+use Rattle.record.specs.Word.{bit}
+use Rattle.words.specs.Outcome.{Outcome}
+use Rattle.words.specs.Words.{saidOf, refusedOf, wordsOf}
+use Rattle.words.specs.declared.Said.{Said}
+
+eight : (l : List ℕ) (a b c d e f g h : ℕ) → 8 ≤ length l
+    → set (set (set (set (set (set (set (set l 0 a) 1 b) 2 c) 3 d) 4 e) 5 f) 6 g) 7 h ≡ a ∷ b ∷ c ∷ d ∷ e ∷ f ∷ g ∷ h ∷ drop 8 l
+eight (x0 ∷ x1 ∷ x2 ∷ x3 ∷ x4 ∷ x5 ∷ x6 ∷ x7 ∷ l) a b c d e f g h q = refl
+eight (x0 ∷ x1 ∷ x2 ∷ x3 ∷ x4 ∷ x5 ∷ x6 ∷ []) a b c d e f g h q = absurd (omega (arith, q))
+eight (x0 ∷ x1 ∷ x2 ∷ x3 ∷ x4 ∷ x5 ∷ []) a b c d e f g h q = absurd (omega (arith, q))
+eight (x0 ∷ x1 ∷ x2 ∷ x3 ∷ x4 ∷ []) a b c d e f g h q = absurd (omega (arith, q))
+eight (x0 ∷ x1 ∷ x2 ∷ x3 ∷ []) a b c d e f g h q = absurd (omega (arith, q))
+eight (x0 ∷ x1 ∷ x2 ∷ []) a b c d e f g h q = absurd (omega (arith, q))
+eight (x0 ∷ x1 ∷ []) a b c d e f g h q = absurd (omega (arith, q))
+eight (x0 ∷ []) a b c d e f g h q = absurd (omega (arith, q))
+eight [] a b c d e f g h q = absurd (omega (arith, q))
+
+pub put′ : (l : List ℕ) (place : ℕ) (second : Bool) (b third : ℕ) (s : Said) → 8 ≤ length l → b ≡ bit second
+    → record { code = s .code; words = set (set (set (set (set (set (set (set l 0 place) 1 b) 2 third) 3 (s .kind)) 4 (s .start)) 5 (s .end)) 6 (s .start_2)) 7 (s .end_2) }
+    ≡ wordsOf place second third s l
+unfolding wordsOf
+put′ l place second b third s q eb = rw (eight l place b third (s .kind) (s .start) (s .end) (s .start_2) (s .end_2) q, eb)
+
+pub room′ : (l : List ℕ) (k : ℕ) → k < 8 → 8 ≤ length l → k < length l
+room′ l k h q = lt-of-lt-of-le h q
+
+pub kept′ : (l : List ℕ) (i x : ℕ) → 8 ≤ length l → 8 ≤ length (set l i x)
+kept′ l i x q = rw length-set q
+
+pub ruleset room-laws = (lit<, room′, kept′)
+
+pub ruleset put-laws = (needs, put′)
+
+pub refused′ : (e : ErrorCode) (n : ℤ) → n ≡ codeOf e → saidOf n 0 0 0 0 0 0 ≡ refusedOf e
+refused′ e n en = rw en
+
+pub ruleset said-laws = (needs, refused′)

@@ -2,14 +2,14 @@
 use Prim.Native.Nat.{ℕ, _+_, _≤_}
 use mathlib.Core.Path.{_≡_, refl, sym, _∙_}
 use mathlib.Core.List.{List, [], _∷_}
-use mathlib.Core.Bool.{Bool, true, false, cond, not, _&&_, and-true}
+use mathlib.Core.Bool.{Bool, true, false, cond, not, and-true}
 use native.Mathlib.Omega.{arith}
 use lib.Dec.{eqb, leb}
 use lib.ListN.{length, getD}
 use mir.Syntax.{w8}
 use mir.Val.{Fits}
 use borrow.Author.Needs.{needs}
-use borrow.Author.Tests.{not-true, not-false, leb-true, eq-eqb, ne-eqb}
+use borrow.Author.Tests.{leb-true, eq-eqb, ne-eqb}
 use Rattle.kind.specs.Class.{isCapital, isSmall, isDigit}
 use Rattle.kind.proofs.Tests.{and-left, and-right}
 use Rattle.kind.proofs.Classes.{small-no-capital, small-no-digit, digit-no-capital, capital-no-small}
@@ -34,12 +34,13 @@ module _ (b : ℕ) (r : Bool) where
     unfolding mayLeaveOut
     left-out-other′ d f q = rw (← e, q, f)
 
-  pub left-out-small′ : r ≡ isSmall b → r ≡ true → true ≡ mayLeaveOut b
-  left-out-small′ e q = sym (small-left-out b (sym e ∙ q))
+  module _ (e : r ≡ isSmall b) where
+    pub left-out-small′ : r ≡ true → true ≡ mayLeaveOut b
+    left-out-small′ q = sym (small-left-out b (sym e ∙ q))
 
--- a character of a name and the same of a word, as a short form asks for them
-abbrev pub inShort : ℕ → ℕ → Bool
-inShort c d = eitherCase c d && notSmall c
+    pub not-small′ : not r ≡ notSmall b
+    unfolding notSmall
+    not-small′ = rw e
 
 module _ (c d : ℕ) where
   pub one-character′ : c ≡ d → true ≡ eitherCase c d
@@ -66,14 +67,6 @@ module _ (c d : ℕ) where
       pub no-capital′ : y ≡ false → false ≡ eitherCase c d
       unfolding eitherCase folded
       no-capital′ p = rw (← cap, q, ← cap′, p) (sym (ne-eqb c d apart))
-
-  module _ (a : Bool) (e : a ≡ eitherCase c d) where
-    pub unlike′ : not a ≡ true → false ≡ inShort c d
-    unlike′ q = rw (← e, not-true a q)
-
-    pub in-short′ : not a ≡ false → (r : Bool) → r ≡ isSmall c → not r ≡ inShort c d
-    unfolding notSmall
-    in-short′ q r f = rw (← e, not-false a q, f)
 
 module _ (s : List ℕ) where
   pub one-long′ : (length s ≡ 1 → ⊥) → false ≡ pairs eqb s (49 ∷ [])
@@ -107,4 +100,4 @@ module _ (b : ℕ) where
 
 pub ruleset case-laws = (needs, folded-fits′, one-character′, first-capital′, second-capital′, no-capital′)
 
-pub ruleset laws = (needs, left-out-small′, left-out-capital′, left-out-other′, unlike′, in-short′, one-long′, one-is′)
+pub ruleset laws = (needs, left-out-small′, left-out-capital′, left-out-other′, not-small′, one-long′, one-is′)

@@ -1,8 +1,8 @@
 -- Laws of `compares`, one for each way out of the comparison.
 use Prim.Native.Nat.{ℕ, _-_, _≤_, _<_}
 use mathlib.Core.Path.{_≡_, refl, sym, _∙_}
-use mathlib.Core.List.{List, [], _∷_}
-use mathlib.Core.Bool.{Bool, true, false, not, _&&_, _||_, and-assoc, and-false}
+use mathlib.Core.List.{List, _∷_}
+use mathlib.Core.Bool.{Bool, true, false, not, _&&_, _||_, false≢true}
 use native.Mathlib.Omega.{arith}
 use lib.ListN.{length, take, drop, length-take, length-drop}
 use lib.Seq.{take-all, length-take-le}
@@ -10,8 +10,7 @@ use borrow.Author.Needs.{needs}
 use borrow.Author.Tests.{not-true, not-false}
 use Rattle.util.specs.Run.{every}
 use Rattle.mnemonic.specs.Mnemonic.{pairs, eitherCase, notSmall, mayLeaveOut, compares}
-use Rattle.mnemonic.proofs.Pairs.{differ}
-use Rattle.mnemonic.proofs.Bytes.{inShort}
+use Rattle.mnemonic.proofs.Pairs.{differ, long}
 
 -- a part's length is what was asked for
 pub part-long′ : (n : ℕ) (m : List ℕ) → n ≤ length m → n ≡ length (take n m)
@@ -26,47 +25,39 @@ pub begin-apart : (c d : ℕ) (m s : List ℕ) → eitherCase c d ≡ false → 
 unfolding compares pairs
 begin-apart c d m s e = rw e
 
-regroup : (a b p q : Bool) → ((a && b) && (p && q)) ≡ ((a && p) && (b && q))
-regroup true true p q = refl
-regroup true false p q = sym (and-false p)
-regroup false b p q = refl
-
-absorb : (p q : Bool) → (p || (p && q)) ≡ p
-absorb true q = refl
-absorb false q = refl
-
--- both tests at each place are the one at all places and then the other
-short-form : (x y : List ℕ) → pairs inShort x y ≡ (pairs eitherCase x y && every notSmall x)
-unfolding pairs every
-short-form [] [] = refl
-short-form [] (d ∷ y) = refl
-short-form (c ∷ x) [] = refl
-short-form (c ∷ x) (d ∷ y) =
-    rw (short-form x y) (regroup (eitherCase c d) (notSmall c) (pairs eitherCase x y) (every notSmall x))
-
 module _ (m s : List ℕ) where
   -- with no word of the mnemonic's own length only the short form is left
-  apart : (length m ≡ length s → ⊥) → compares m s ≡ (pairs inShort (take (length s) m) s && every mayLeaveOut (drop (length s) m))
+  apart : (length m ≡ length s → ⊥) → compares m s ≡ (pairs eitherCase (take (length s) m) s && (every notSmall (take (length s) m) && every mayLeaveOut (drop (length s) m)))
   unfolding compares
-  apart h =
-      rw (differ eitherCase m s h, short-form (take (length s) m) s)
-      (sym (and-assoc (pairs eitherCase (take (length s) m) s) (every notSmall (take (length s) m)) (every mayLeaveOut (drop (length s) m))))
+  apart h = rw (differ eitherCase m s h)
 
   pub longer′ : length m < length s → false ≡ compares m s
   longer′ h =
-      sym (apart (λ e. omega arith) ∙ rw (differ inShort (take (length s) m) s (λ e. omega (arith, e, length-take (length s) m))))
+      sym (apart (λ e. omega arith) ∙ rw (differ eitherCase (take (length s) m) s (λ e. omega (arith, e, length-take (length s) m))))
 
-  pub whole′ : length m ≡ length s → (a : Bool) → a ≡ pairs eitherCase m s → a ≡ compares m s
-  unfolding compares
-  whole′ h a e =
-      let w : take (length s) m ≡ m = take-all (length s) m (omega arith) in
-      e ∙ sym (rw w (absorb (pairs eitherCase m s) (every notSmall m && every mayLeaveOut (drop (length s) m))))
+  module _ (a : Bool) (alike′ : a ≡ pairs eitherCase (take (length s) m) s) where
+    pub whole′ : length m ≡ length s → not a ≡ false → true ≡ compares m s
+    unfolding compares
+    whole′ h q =
+        let e : take (length s) m ≡ m = take-all (length s) m (omega arith) in
+        rw (← (rw e at (sym (not-false a q) ∙ alike′)))
 
-  module _ (h : length m ≡ length s → ⊥) (a : Bool) (short : a ≡ pairs inShort (take (length s) m) s) where
-    pub other′ : not a ≡ true → false ≡ compares m s
-    other′ q = sym (apart h ∙ rw (← short, not-true a q))
+    pub other′ : length s ≤ length m → not a ≡ true → false ≡ compares m s
+    unfolding compares
+    other′ h q = rw (← alike′, not-true a q) (go (pairs eitherCase m s) refl)
+      where
+        go : (b : Bool) → pairs eitherCase m s ≡ b → false ≡ (b || false)
+        go false e = refl
+        go true e =
+            let l : length m ≡ length s = long eitherCase m s e in
+            let w : take (length s) m ≡ m = take-all (length s) m (omega arith) in
+            absurd (false≢true (sym (not-true a q) ∙ alike′ ∙ rw w e))
 
-    pub rest′ : not a ≡ false → (c : Bool) → c ≡ every mayLeaveOut (take (length m - length s) (drop (length s) m)) → c ≡ compares m s
-    rest′ q c left = sym (apart h ∙ rw (← short, not-false a q, left, to-end (length s) m))
+    module _ (h : length m ≡ length s → ⊥) (q : not a ≡ false) (b : Bool) (caps : b ≡ every notSmall (take (length s) m)) where
+      pub small-in′ : not b ≡ true → false ≡ compares m s
+      small-in′ k = sym (apart h ∙ rw (← alike′, not-false a q, ← caps, not-true b k))
 
-pub ruleset laws = (needs, part-long′, longer′, whole′, other′, rest′)
+      pub rest′ : not b ≡ false → (c : Bool) → c ≡ every mayLeaveOut (take (length m - length s) (drop (length s) m)) → c ≡ compares m s
+      rest′ k c left = sym (apart h ∙ rw (← alike′, not-false a q, ← caps, not-false b k, left, to-end (length s) m))
+
+pub ruleset laws = (needs, part-long′, longer′, whole′, other′, small-in′, rest′)

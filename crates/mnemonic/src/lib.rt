@@ -1,9 +1,9 @@
 // Mnemonics: which spoken word is which name. tokenizer/util.rs of the original.
 ghost use mathlib.Core.Path.{_≡_};
-ghost use mathlib.Core.Bool.{true, false, _&&_};
+ghost use mathlib.Core.Bool.{true, false};
 ghost use Rattle.kind.specs.Text.{ascii};
 ghost use Rattle.util.specs.Run.{every};
-ghost use Rattle.mnemonic.specs.Mnemonic.{pairs, eitherCase, alike, same, notSmall, mayLeaveOut, compares, numericSuffixStart, sameNumericSuffix, matchesParts, matches};
+ghost use Rattle.mnemonic.specs.Mnemonic.{eitherCase, alike, same, notSmall, mayLeaveOut, compares, numericSuffixStart, sameNumericSuffix, matchesParts, matches};
 
 // The same character, whichever case a letter is in.
 fn is_either_case(c: u8, d: u8) -> bool
@@ -55,26 +55,20 @@ fn is_equal(x: &[u8], y: &[u8]) -> bool
     true
 }
 
-// The same character, whichever case a letter is in, and one that may stand in a short form.
-fn is_in_short_form(c: u8, d: u8) -> bool
-    ensures { λ r. ⌜ r ≡ (eitherCase c d && notSmall c) ⌝ }
+// A character that may stand in a short form.
+fn is_not_small(b: u8) -> bool
+    ensures { λ r. ⌜ r ≡ notSmall b ⌝ }
 {
-    if !is_either_case(c, d) {
-        return false;
-    }
-    !kind::is_small(c)
+    !kind::is_small(b)
 }
 
-// Whether a word is this front part of a mnemonic, in either case of its letters, and the part may be a short form.
-fn is_short_form(front: &[u8], s: &[u8]) -> bool
-    ensures { λ r. ⌜ r ≡ pairs (λ c d. eitherCase c d && notSmall c) (now (front .entry)) (now (s .entry)) ⌝ }
+// Whether a text may be a short form.
+fn has_no_small(s: &[u8]) -> bool
+    ensures { λ r. ⌜ r ≡ every notSmall (now (s .entry)) ⌝ }
 {
-    if front.len() != s.len() {
-        return false;
-    }
     let mut i = 0;
-    while i < front.len() {
-        if !is_in_short_form(front[i], s[i]) {
+    while i < s.len() {
+        if !is_not_small(s[i]) {
             return false;
         }
         i += 1;
@@ -117,10 +111,13 @@ pub fn mnemonic_compare(mnemonic: &[u8], s: &[u8]) -> bool
     if mnemonic.len() < n {
         return false;
     }
-    if mnemonic.len() == n {
-        return is_alike(mnemonic, s);
+    if !is_alike(&mnemonic[..n], s) {
+        return false;
     }
-    if !is_short_form(&mnemonic[..n], s) {
+    if mnemonic.len() == n {
+        return true;
+    }
+    if !has_no_small(&mnemonic[..n]) {
         return false;
     }
     may_leave_out_all(&mnemonic[n..])

@@ -1,3 +1,4 @@
 pub mod Children
+pub mod Ways
 pub mod Parts
 pub mod Claims

@@ -3,11 +3,18 @@
 ghost use mathlib.Core.Path.{_≡_};
 ghost use Rattle.node.specs.Tree.{branch};
 ghost use Rattle.branch.specs.Children.{spokenBy, unsaidIn, Picks};
+ghost use Rattle.branch.specs.Ways.{Finds, Settles};
 ghost use Rattle.branch.specs.Parts.{Covers};
 
 // The child that was looked for.
 pub enum Pick {
     Child(usize),
+    None,
+}
+
+// A child that a word spells, and the branch that holds it.
+pub enum Found {
+    Child { holder: usize, child: usize },
     None,
 }
 
@@ -58,6 +65,37 @@ pub fn default_child(nodes: &[u64], b: usize) -> Pick
         d += 1;
     }
     Pick::None
+}
+
+// The child that a word spells in a branch, or in the default branch inside it, as far down as these go.
+pub fn find(nodes: &[u64], names: &[u8], b: usize, word: &[u8]) -> Found
+    ensures { λ r. ⌜ Finds (now (nodes .entry)) (now (names .entry)) (now (word .entry)) b r ⌝ }
+{
+    match spoken_child(nodes, names, b, word) {
+        Pick::Child(k) => Found::Child {
+            holder: b,
+            child: k,
+        },
+        Pick::None => match default_child(nodes, b) {
+            Pick::None => Found::None,
+            Pick::Child(d) => find(nodes, names, d, word),
+        },
+    }
+}
+
+// The leaf that is reached from a branch by default children alone.
+pub fn default_leaf(nodes: &[u64], b: usize) -> Pick
+    ensures { λ r. ⌜ Settles (now (nodes .entry)) b r ⌝ }
+{
+    match default_child(nodes, b) {
+        Pick::None => Pick::None,
+        Pick::Child(d) => {
+            if node::is_branch(nodes[d]) {
+                return default_leaf(nodes, d);
+            }
+            Pick::Child(d)
+        }
+    }
 }
 
 // Where the children of a branch stand. A block that does not lie behind its branch in the table has none.

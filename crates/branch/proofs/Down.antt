@@ -1,0 +1,79 @@
+-- Laws of the ways down, as the code meets them.
+use Prim.Native.Nat.{ℕ, _-_, _<_}
+use mathlib.Core.Path.{_≡_, sym, _∙_}
+use mathlib.Core.List.{List}
+use mathlib.Core.Bool.{Bool, true, false}
+use native.Mathlib.Omega.{arith}
+use lib.ListN.{length, getD}
+use borrow.Author.Needs.{needs}
+use Rattle.node.specs.Word.{isBranch}
+use Rattle.branch.specs.Children.{Below, spokenBy, unsaidIn, Picks, first-one, not-one}
+use Rattle.branch.specs.Ways.{Finds, here, under, unfound, Settles, at-leaf, onward, unsettled}
+use Rattle.branch.specs.declared.Pick.{Pick}
+use Rattle.branch.specs.declared.Pick.the-variants as pick
+use Rattle.branch.specs.declared.Found.{Found}
+use Rattle.branch.specs.declared.Found.the-variants as found
+use Rattle.branch.proofs.Picks.{below-in}
+
+-- what was picked is a child
+pub picked : {t : List ℕ} {b k : ℕ} {q : ℕ → Bool} → Picks t b q (pick.Child k) → Below t b k
+picked (first-one x e f) = x
+
+-- a child lies deeper in the table than its branch, and so does what is found and the leaf that is reached
+
+pub deeper : {t : List ℕ} {b k : ℕ} {q : ℕ → Bool} → Picks t b q (pick.Child k) → (b < k) × (k < length t)
+deeper x =
+    let y = picked x in
+    (omega (arith, y .behind, y .child .from), below-in y)
+
+pub found-deeper : {t names w : List ℕ} {b h k : ℕ} → Finds t names w b (found.Child h k) → (b < k) × (k < length t)
+found-deeper (here x) = deeper x
+found-deeper (under x d z) =
+    let y = deeper d in
+    let v = found-deeper z in
+    (omega (arith, y .0, v .0), v .1)
+
+pub leaf-inside : {t : List ℕ} {b k : ℕ} → Settles t b (pick.Child k) → k < length t
+leaf-inside (at-leaf d e) = deeper d .1
+leaf-inside (onward d e z) = leaf-inside z
+
+module _ (t : List ℕ) (b k : ℕ) (p : Pick) (e : p ≡ pick.Child k) (x : Picks t b (unsaidIn t) p) where
+  pub child-in′ : k < length t
+  child-in′ = deeper (rw e at x) .1
+
+  pub deeper′ : (μ : ℕ) → length t - b ≡ μ → length t - k < μ
+  deeper′ μ h =
+      let y : (b < k) × (k < length t) = deeper (rw e at x) in
+      omega (arith, h, y .0, y .1)
+
+pub ruleset down-laws = (needs, child-in′, deeper′)
+
+-- what a word spells
+
+module _ (t names w : List ℕ) (b : ℕ) (p : Pick) (x : Picks t b (spokenBy t names w) p) where
+  pub here′ : (k : ℕ) → p ≡ pick.Child k → Finds t names w b (found.Child b k)
+  here′ k e = here (rw e at x)
+
+  module _ (e : p ≡ pick.None) (d : Pick) (y : Picks t b (unsaidIn t) d) where
+    pub unfound′ : d ≡ pick.None → Finds t names w b found.None
+    unfound′ f = unfound (rw e at x) (rw f at y)
+
+    pub under′ : (k : ℕ) → d ≡ pick.Child k → (r : Found) → Finds t names w k r → Finds t names w b r
+    under′ k f r z = under (rw e at x) (rw f at y) z
+
+pub ruleset find-laws = (needs, here′, unfound′, under′)
+
+-- the leaf that is reached unsaid
+
+module _ (t : List ℕ) (b : ℕ) (p : Pick) (x : Picks t b (unsaidIn t) p) where
+  pub unsettled′ : p ≡ pick.None → Settles t b pick.None
+  unsettled′ e = unsettled (rw e at x)
+
+  module _ (k : ℕ) (e : p ≡ pick.Child k) (c : Bool) (f : c ≡ isBranch (getD t k 0)) where
+    pub at-leaf′ : c ≡ false → Settles t b (pick.Child k)
+    at-leaf′ g = at-leaf (rw e at x) (sym f ∙ g)
+
+    pub onward′ : c ≡ true → (r : Pick) → Settles t k r → Settles t b r
+    onward′ g r z = onward (rw e at x) (sym f ∙ g) z
+
+pub ruleset settle-laws = (needs, child-in′, unsettled′, at-leaf′, onward′)

@@ -6,11 +6,10 @@ use mathlib.Core.Bool.{Bool, true, false}
 use native.Mathlib.Omega.{arith}
 use lib.ListN.{length}
 use Rattle.node.specs.Tree.{branch}
-use Rattle.branch.specs.Children.{spokenBy, unsaidIn, Picks, first-one}
+use Rattle.branch.specs.Children.{spokenBy, unsaidIn, Picks}
 use Rattle.branch.specs.declared.Pick.{Pick}
 use Rattle.branch.specs.declared.Pick.the-variants as pick
-use Rattle.branch.proofs.Picks.{below-in}
-use Rattle.branch.proofs.Some.{some-pick}
+use Rattle.branch.proofs.Some.{some-pick, nearer}
 use Rattle.token.specs.View.{partOf}
 use Rattle.token.specs.declared.View.{View}
 use Rattle.tokenizer.specs.declared.State.{State}
@@ -24,10 +23,6 @@ use Rattle.header.specs.declared.Turn.the-variants as turn
 use Rattle.header.specs.declared.Header.{Header}
 
 module _ (t names s : List ℕ) where
-  -- a child that was picked lies deeper
-  deeper : {n k f : ℕ} {q : ℕ → Bool} → Picks t n q (pick.Child k) → length t - n < suc f → length t - k < f
-  deeper (first-one x e h) l = omega (arith, below-in x, x .behind, x .child .from, l)
-
   within : (f h n : ℕ) (seen : Seen) → length t - n < f → (r : Header) × Reads t names s h n seen r
   within zero h n seen l = absurd (omega arith)
   within (suc f) h n seen l = go (branch t n) refl (within f)
@@ -37,13 +32,13 @@ module _ (t names s : List ℕ) where
       go true m rest = at-turn (turnOf s seen) refl
         where
           at-stop : turnOf s seen ≡ turn.Stop → (p : Pick) → Picks t n (unsaidIn t) p → (r : Header) × Reads t names s h n seen r
-          at-stop e (pick.Child k) x = let z = rest h k seen (deeper x l) in (z .0, ended m e x (z .1))
+          at-stop e (pick.Child k) x = let z = rest h k seen (nearer x l) in (z .0, ended m e x (z .1))
           at-stop e pick.None x = (_, nowhere m e x)
 
           at-word : (w : View) (st : State) → turnOf s seen ≡ turn.Word w st → (p : Pick) → Picks t n (spokenBy t names (partOf s w)) p
               → (d : Pick) → Picks t n (unsaidIn t) d → (r : Header) × Reads t names s h n seen r
-          at-word w st e (pick.Child k) x d y = let z = rest n k (seenAt s st) (deeper x l) in (z .0, said m e x (z .1))
-          at-word w st e pick.None x (pick.Child k) y = let z = rest h k (seenWith (ahead.Word w) st) (deeper y l) in (z .0, unsaid m e x y (z .1))
+          at-word w st e (pick.Child k) x d y = let z = rest n k (seenAt s st) (nearer x l) in (z .0, said m e x (z .1))
+          at-word w st e pick.None x (pick.Child k) y = let z = rest h k (seenWith (ahead.Word w) st) (nearer y l) in (z .0, unsaid m e x y (z .1))
           at-word w st e pick.None x pick.None y = (_, unknown m e x y)
 
           at-turn : (x : Turn) → turnOf s seen ≡ x → (r : Header) × Reads t names s h n seen r

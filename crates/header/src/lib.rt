@@ -6,6 +6,7 @@ ghost use Rattle.header.specs.Header.{turnOf, behindColon, leafAnswer, q
 use ahead::Ahead;
 use ahead::Seen;
 use ahead::Stop;
+use branch::Found;
 use branch::Pick;
 use error::ErrorCode;
 use token::View;
@@ -44,12 +45,12 @@ pub fn resolve(nodes: &[u64], names: &[u8], s: &[u8], start: usize, seen: Seen) 
         Ahead::Refused(e) => Header::Refused(e),
         Ahead::Stop(_) => Header::Refused(ErrorCode::SyntaxError),
         Ahead::Query => Header::Refused(ErrorCode::SyntaxError),
-        Ahead::Colon => descend(nodes, names, s, 0, 0, ahead::look(s, state)),
+        Ahead::Colon => descend(nodes, names, s, 0, ahead::look(s, state)),
         Ahead::Word(word) => {
             if util::stands(token::part(s, word), 0, b'*') {
-                return keep(start, descend(nodes, names, s, 0, 0, seen));
+                return keep(start, descend(nodes, names, s, 0, seen));
             }
-            descend(nodes, names, s, start, start, seen)
+            descend(nodes, names, s, start, seen)
         }
     }
 }
@@ -76,34 +77,34 @@ fn keep(start: usize, header: Header) -> Header
     }
 }
 
-// Goes on from a node with what is ahead. The holder is the branch of the node that was spoken last.
-fn descend(nodes: &[u64], names: &[u8], s: &[u8], holder: usize, at: usize, seen: Seen) -> Header
-    requires { ⌜ at < length (now nodes) ⌝ }
-    ensures { λ r. ⌜ Reads (now (nodes .entry)) (now (names .entry)) (now (s .entry)) holder at seen r ⌝ }
+// Goes down from a node, word by word. The holder is the branch of the node that was spoken last.
+fn descend(nodes: &[u64], names: &[u8], s: &[u8], start: usize, first: Seen) -> Header
+    requires { ⌜ start < length (now nodes) ⌝ }
+    ensures { λ r. ⌜ Reads (now (nodes .entry)) (now (names .entry)) (now (s .entry)) start start first r ⌝ }
 {
-    let node = nodes[at];
-    if !node::is_branch(node) {
-        return leaf(s, node::command_number(node), holder, seen);
-    }
-    match turn_at(s, seen) {
-        Turn::Refused(e) => Header::Refused(e),
-        Turn::Stop => match branch::default_child(nodes, at) {
-            Pick::None => Header::Refused(ErrorCode::UndefinedHeader),
-            Pick::Child(k) => descend(nodes, names, s, holder, k, seen),
-        },
-        Turn::Word { word, state } => {
-            match branch::spoken_child(nodes, names, at, token::part(s, word)) {
-                Pick::Child(k) => descend(nodes, names, s, at, k, ahead::look(s, state)),
-                Pick::None => match branch::default_child(nodes, at) {
-                    Pick::None => Header::Refused(ErrorCode::UndefinedHeader),
-                    Pick::Child(k) => {
-                        let again = Seen {
-                            ahead: Ahead::Word(word),
-                            state,
-                        };
-                        descend(nodes, names, s, holder, k, again)
+    let mut holder = start;
+    let mut at = start;
+    let mut seen = first;
+    loop {
+        let node = nodes[at];
+        if !node::is_branch(node) {
+            return leaf(s, node::command_number(node), holder, seen);
+        }
+        match turn_at(s, seen) {
+            Turn::Refused(e) => return Header::Refused(e),
+            Turn::Stop => match branch::default_leaf(nodes, at) {
+                Pick::None => return Header::Refused(ErrorCode::UndefinedHeader),
+                Pick::Child(k) => return leaf(s, node::command_number(nodes[k]), holder, seen),
+            },
+            Turn::Word { word, state } => {
+                match branch::find(nodes, names, at, token::part(s, word)) {
+                    Found::None => return Header::Refused(ErrorCode::UndefinedHeader),
+                    Found::Child { holder: h, child } => {
+                        holder = h;
+                        at = child;
+                        seen = ahead::look(s, state);
                     }
-                },
+                }
             }
         }
     }

@@ -1,4 +1,4 @@
--- The kinds of the bytes that begin a word or a number.
+-- The kinds of the bytes that begin a word.
 use Prim.Native.Nat.{ℕ, _<_}
 use mathlib.Core.Path.{_≡_}
 use mathlib.Core.Logic.{_⊎_, inl, inr, ⊎-elim}
@@ -19,30 +19,14 @@ of-letters : (b : ℕ) → b < 123 → lettersOf b ≡ true
 unfolding lettersOf kindOf isLetter isWhiteSpace isCapital isSmall isDigit isSign isQuote isAscii
 of-letters b h = agrees lettersOf (λ _. true) 123 b tt h
 
--- and digits have one
-digitsOf : ℕ → Bool
-digitsOf b = not (isDigit b) || eqb (kindOf b) 15
-
-of-digits : (b : ℕ) → b < 123 → digitsOf b ≡ true
-unfolding digitsOf kindOf isWhiteSpace isCapital isSmall isDigit isSign isQuote isAscii
-of-digits b h = agrees digitsOf (λ _. true) 123 b tt h
-
 letter-below : (b : ℕ) → isLetter b ≡ true → b < 123
 unfolding isLetter isCapital isSmall
 letter-below b e =
     ⊎-elim (λ k. omega (arith, leb-true b 90 (and-right (leb 65 b) (leb b 90) k))) (λ k. omega (arith, leb-true b 122 (and-right (leb 97 b) (leb b 122) k)))
     (either (isCapital b) (isSmall b) e)
 
-digit-below : (b : ℕ) → isDigit b ≡ true → b < 123
-unfolding isDigit
-digit-below b e = omega (arith, leb-true b 57 (and-right (leb 48 b) (leb b 57) e))
-
 pub letter-kind : (b : ℕ) → isLetter b ≡ true → (kindOf b ≡ 16) ⊎ (kindOf b ≡ 17)
 unfolding lettersOf
 letter-kind b e =
     ⊎-elim (λ k. inl (eqb-true (kindOf b) 16 k)) (λ k. inr (eqb-true (kindOf b) 17 k))
     (either (eqb (kindOf b) 16) (eqb (kindOf b) 17) (rw e at (of-letters b (letter-below b e))))
-
-pub digit-kind : (b : ℕ) → isDigit b ≡ true → kindOf b ≡ 15
-unfolding digitsOf
-digit-kind b e = eqb-true (kindOf b) 15 (rw e at (of-digits b (digit-below b e)))

@@ -9,7 +9,7 @@ use borrow.Author.Needs.{needs}
 use borrow.Author.Tests.{le-leb, lt-leb, ne-eqb}
 use Rattle.error.specs.declared.ErrorCode.{ErrorCode}
 use Rattle.error.specs.declared.ErrorCode.the-variants.{InvalidCharacter, SyntaxError, CommandHeaderError}
-use Rattle.kind.specs.Class.{isWhiteSpace, isDigit, isLetter}
+use Rattle.kind.specs.Class.{isWhiteSpace, isLetter}
 use Rattle.kind.specs.Kind.{kindOf}
 use Rattle.util.specs.Run.{runEnd}
 use Rattle.token.specs.declared.Token.{Token}
@@ -25,7 +25,7 @@ use Rattle.item.specs.declared.Read.the-variants as read
 use Rattle.separator.specs.Separator.{newlineTo, colonTo, questionTo, commaTo}
 use Rattle.separator.specs.declared.Pass.{Pass}
 use Rattle.separator.specs.declared.Pass.the-variants as pass
-use Rattle.tokenizer.proofs.Starts.{letter-kind, digit-kind}
+use Rattle.tokenizer.proofs.Starts.{letter-kind}
 use Rattle.tokenizer.specs.declared.State.{State}
 use Rattle.tokenizer.specs.declared.Answer.the-variants as answer
 use Rattle.tokenizer.specs.declared.Step.{Step}
@@ -196,18 +196,14 @@ module _ (s : List ℕ) (st : State) where
         ∙ sym (by-kind
         ∙ rw (ne-eqb k 0 n0, ne-eqb k 2 n2, ne-eqb k 3 n3, ne-eqb k 4 n4, ne-eqb k 5 n5, ne-eqb k 6 n6, ne-eqb k 1 n1, ne-eqb k 16 n16, ne-eqb k 17 n17, ne-eqb k 11 n11, ne-eqb k 12 n12, ne-eqb k 14 n14, ne-eqb k 13 n13, ne-eqb k 9 n9, ne-eqb k 10 n10))
 
-  -- a word or a number, by its first byte
+  -- a word, by its first byte
   module _ (h : st .place < length s) (r : Bool) (x : Step) where
     pub letter′ : r ≡ isLetter (getD s (st .place) 0) → r ≡ true → x ≡ wordAt s st (st .place) → x ≡ step s st
     letter′ e q ex =
         ⊎-elim (λ k. small′ h (kindOf (getD s (st .place) 0)) refl x k ex) (λ k. capital′ h (kindOf (getD s (st .place) 0)) refl x k ex)
         (letter-kind (getD s (st .place) 0) (sym e ∙ q))
 
-    pub digit′ : r ≡ isDigit (getD s (st .place) 0) → r ≡ true → x ≡ outside s st (numericData s (st .place)) → x ≡ step s st
-    unfolding byKind
-    digit′ e q ex = ex ∙ sym (by-kind h (kindOf (getD s (st .place) 0)) refl x ∙ rw (digit-kind (getD s (st .place) 0) (sym e ∙ q)))
-
-pub ruleset steps = (needs, past′, letter′, digit′, newline′, blank′, star′, colon′, question′, semicolon′, comma′, small′, capital′, parenthesis′, other′, underscore′, beyond′, hash′, quote′, number′)
+pub ruleset steps = (needs, past′, newline′, blank′, star′, colon′, question′, semicolon′, comma′, small′, capital′, parenthesis′, other′, underscore′, beyond′, hash′, quote′, number′)
 
 -- data alone starts as a message does, but outside a header
 pub data-start′ : (st : State) → st ≡ ofMessage → stateOf (st .place) false (inCommon st) ≡ ofData

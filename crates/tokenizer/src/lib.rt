@@ -63,13 +63,6 @@ pub fn next(s: &[u8], state: State) -> Step
         return ended(state);
     }
     let b = s[at];
-    // a word or a number is known without the table, which is copied to the stack wherever it is read
-    if kind::is_letter(b) {
-        return word(s, at, state);
-    }
-    if kind::is_digit(b) {
-        return number(s, at, state);
-    }
     let k = kind::kind(b);
     match k {
         kind::NEWLINE => newline(s, at + 1, state),

@@ -11,24 +11,6 @@ returns c = search steps
 shared-slice-read-b : tie.Need-shared-slice-read-b
 shared-slice-read-b c = search steps
 
-is-letter-requires : tie.Need-is-letter-requires
-is-letter-requires c κs = search steps
-
-word-requires : tie.Need-word-requires
-word-requires c κs = search steps
-
-returns-2 : tie.Need-returns-2
-returns-2 c = search steps
-
-is-digit-requires : tie.Need-is-digit-requires
-is-digit-requires c κs = search steps
-
-number-requires : tie.Need-number-requires
-number-requires c κs = search steps
-
-returns-3 : tie.Need-returns-3
-returns-3 c = search steps
-
 kind-requires : tie.Need-kind-requires
 kind-requires c κs = search steps
 
@@ -68,11 +50,11 @@ add-comma c = search steps
 comma-requires : tie.Need-comma-requires
 comma-requires c κs = search steps
 
+word-requires : tie.Need-word-requires
+word-requires c κs = search steps
+
 word-requires-2 : tie.Need-word-requires-2
 word-requires-2 c κs = search steps
-
-word-requires-3 : tie.Need-word-requires-3
-word-requires-3 c κs = search steps
 
 add-expression : tie.Need-add-expression
 add-expression c = search steps
@@ -101,8 +83,14 @@ add-string c = search steps
 string-requires : tie.Need-string-requires
 string-requires c κs = search steps
 
-number-requires-2 : tie.Need-number-requires-2
-number-requires-2 c κs = search steps
+number-requires : tie.Need-number-requires
+number-requires c κs = search steps
+
+returns-2 : tie.Need-returns-2
+returns-2 c = search steps
+
+returns-3 : tie.Need-returns-3
+returns-3 c = search steps
 
 returns-4 : tie.Need-returns-4
 returns-4 c = search steps
@@ -146,12 +134,6 @@ returns-16 c = search steps
 returns-17 : tie.Need-returns-17
 returns-17 c = search steps
 
-returns-18 : tie.Need-returns-18
-returns-18 c = search steps
-
-returns-19 : tie.Need-returns-19
-returns-19 c = search steps
-
 pub next-spec : {M : Type 1} → statement M
 next-spec =
     tie.close
@@ -159,12 +141,6 @@ next-spec =
     ended-requires
     returns
     shared-slice-read-b
-    is-letter-requires
-    word-requires
-    returns-2
-    is-digit-requires
-    number-requires
-    returns-3
     kind-requires
     add-newline
     newline-requires
@@ -178,8 +154,8 @@ next-spec =
     semicolon-requires
     add-comma
     comma-requires
+    word-requires
     word-requires-2
-    word-requires-3
     add-expression
     expression-requires
     refused-requires
@@ -189,7 +165,9 @@ next-spec =
     hash-requires
     add-string
     string-requires
-    number-requires-2
+    number-requires
+    returns-2
+    returns-3
     returns-4
     returns-5
     returns-6
@@ -203,6 +181,4 @@ next-spec =
     returns-14
     returns-15
     returns-16
-    returns-17
-    returns-18
-    returns-19)
+    returns-17)

@@ -27,11 +27,13 @@ use Rattle.item.proofs.Accepted.{only-then, only-else, only-followed}
 use Rattle.enclosed.specs.String.{stringEnd, closed, stringData}
 use Rattle.channel_spec.specs.Spec.{specAt, isEmpty}
 use Rattle.channel_spec.specs.declared.ChannelSpec.{ChannelSpec}
-use Rattle.channel_list.specs.List.{stateOf, opened, taken, refusal, ended, beginsSpec, rangeOf, rangeTo, specsFrom, specsAt, pathOf, pathAt, itemAt, commaBefore, step}
+use Rattle.channel_list.specs.List.{stateOf, opened, taken, refusal, ended, beginsSpec, rangeOf, rangeTo, specsFrom, specsAt, pathOf, pathAt, itemAt, commaBefore, step, stepAt, Inside}
 use Rattle.channel_list.specs.declared.State.{State}
 use Rattle.channel_list.specs.declared.Token.the-variants as item
 use Rattle.channel_list.specs.declared.Answer.the-variants as answer
 use Rattle.channel_list.specs.declared.Step.{Step}
+use Rattle.channel_list.specs.declared.Front.{Front}
+use Rattle.channel_list.specs.declared.Front.the-variants as front
 use Rattle.channel_list.specs.declared.Opened.the-variants as opens
 use Rattle.channel_list.specs.declared.Token as items
 
@@ -148,33 +150,65 @@ module _ (s : List ℕ) (st : State) (at : ℕ) (x : Step) where
       unfolding itemAt isQuote
       item-other′ n ex = ex ∙ rw (← er, q, ne-eqb (getD s at 0) 34 (λ e. n (inl e)), ne-eqb (getD s at 0) 39 (λ e. n (inr e)))
 
-  -- a comma
-  pub comma-first′ : st .first ≡ true → x ≡ refusal s st InvalidExpression → x ≡ commaBefore s st at
-  unfolding commaBefore
-  comma-first′ f ex = ex ∙ rw f
+pub ruleset arms = (needs, item-spec′, item-quote′, item-other′)
 
-  pub comma-item′ : st .first ≡ false → at < length s → x ≡ itemAt s st at → x ≡ commaBefore s st at
-  unfolding commaBefore
-  comma-item′ f h ex = ex ∙ rw (f, lt-leb (length s) at h)
+-- Where the next item begins.
+module _ (s : List ℕ) (st : State) (h : st .place < length s) where
+  pub front-here′ : (getD s (st .place) 0 ≡ 44 → ⊥) → stepAt s st (front.Item (st .place)) ≡ step s st
+  unfolding step stepAt
+  front-here′ n = rw (lt-leb (length s) (st .place) h, ne-eqb (getD s (st .place) 0) 44 n)
 
-pub comma-last′ : (s : List ℕ) (st : State) (at : ℕ) → st .first ≡ false → length s ≤ at → record { answer = answer.End; state = stateOf at (st .first) } ≡ commaBefore s st at
-unfolding commaBefore ended
-comma-last′ s st at f h = rw (f, le-leb (length s) at h)
+  module _ (e : getD s (st .place) 0 ≡ 44) where
+    pub front-first′ : st .first ≡ true → stepAt s st front.Refused ≡ step s st
+    unfolding step stepAt commaBefore
+    front-first′ f = rw (lt-leb (length s) (st .place) h, eq-eqb (getD s (st .place) 0) 44 e, f)
 
-pub ruleset arms = (needs, item-spec′, item-quote′, item-other′, comma-first′, comma-last′, comma-item′)
+    module _ (f : st .first ≡ false) where
+      pub front-last′ : length s ≤ st .place + 1 → stepAt s st (front.End (st .place + 1)) ≡ step s st
+      unfolding step stepAt commaBefore
+      front-last′ l = rw (lt-leb (length s) (st .place) h, eq-eqb (getD s (st .place) 0) 44 e, f, le-leb (length s) (st .place + 1) l)
+
+      pub front-behind′ : st .place + 1 < length s → stepAt s st (front.Item (st .place + 1)) ≡ step s st
+      unfolding step stepAt commaBefore
+      front-behind′ l = rw (lt-leb (length s) (st .place) h, eq-eqb (getD s (st .place) 0) 44 e, f, lt-leb (length s) (st .place + 1) l)
+
+module _ (s : List ℕ) where
+  pub inside-item′ : (at : ℕ) → at < length s → Inside s (front.Item at)
+  unfolding Inside
+  inside-item′ at h = h
+
+  pub inside-end′ : (at : ℕ) → Inside s (front.End at)
+  unfolding Inside
+  inside-end′ at = tt
+
+  pub inside-refused′ : Inside s front.Refused
+  unfolding Inside
+  inside-refused′ = tt
+
+pub ruleset fronts = (needs, front-here′, front-first′, front-last′, front-behind′, inside-item′, inside-end′, inside-refused′)
 
 module _ (s : List ℕ) (st : State) where
   pub end′ : length s ≤ st .place → record { answer = answer.End; state = st } ≡ step s st
   unfolding step ended
   end′ h = rw (le-leb (length s) (st .place) h)
 
-  module _ (h : st .place < length s) (x : Step) where
-    pub comma′ : getD s (st .place) 0 ≡ 44 → x ≡ commaBefore s st (st .place + 1) → x ≡ step s st
-    unfolding step
-    comma′ e ex = ex ∙ rw (lt-leb (length s) (st .place) h, eq-eqb (getD s (st .place) 0) 44 e)
+  -- the step, by its front
+  module _ (f : Front) where
+    pub item-inside′ : Inside s f → (at : ℕ) → f ≡ front.Item at → at < length s
+    unfolding Inside
+    item-inside′ i at k = rw k at i
 
-    pub item′ : (getD s (st .place) 0 ≡ 44 → ⊥) → x ≡ itemAt s st (st .place) → x ≡ step s st
-    unfolding step
-    item′ n ex = ex ∙ rw (lt-leb (length s) (st .place) h, ne-eqb (getD s (st .place) 0) 44 n)
+    module _ (e : stepAt s st f ≡ step s st) where
+      pub item′ : (at : ℕ) → f ≡ front.Item at → (x : Step) → x ≡ itemAt s st at → x ≡ step s st
+      unfolding stepAt
+      item′ at k x ex = ex ∙ rw k at e
 
-pub ruleset steps = (needs, end′, comma′, item′)
+      pub last′ : (at : ℕ) → f ≡ front.End at → record { answer = answer.End; state = stateOf at (st .first) } ≡ step s st
+      unfolding stepAt ended
+      last′ at k = rw k at e
+
+      pub refused′ : f ≡ front.Refused → (x : Step) → x ≡ refusal s st InvalidExpression → x ≡ step s st
+      unfolding stepAt
+      refused′ k x ex = ex ∙ rw k at e
+
+pub ruleset steps = (needs, end′, item-inside′, item′, last′, refused′)

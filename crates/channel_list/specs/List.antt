@@ -1,5 +1,5 @@
 -- Channel lists, SCPI-99 8.3.2: what stands at a place of one, and where the next step begins.
-use Prim.Native.Nat.{ℕ, _+_}
+use Prim.Native.Nat.{ℕ, _+_, _<_}
 use Prim.Native.Char.{code}
 use mathlib.Core.List.{List}
 use mathlib.Core.Bool.{Bool, true, false, cond, not, _&&_, _||_}
@@ -20,6 +20,8 @@ use Rattle.channel_list.specs.declared.Token.{Token}
 use Rattle.channel_list.specs.declared.Token.the-variants as item
 use Rattle.channel_list.specs.declared.Answer.the-variants as answer
 use Rattle.channel_list.specs.declared.Step.{Step}
+use Rattle.channel_list.specs.declared.Front.{Front}
+use Rattle.channel_list.specs.declared.Front.the-variants as front
 use Rattle.channel_list.specs.declared.Opened.{Opened}
 use Rattle.channel_list.specs.declared.Opened.the-variants as opens
 
@@ -98,3 +100,15 @@ step s st =
     cond (leb (length s) (st .place)) (ended st (st .place))
     (cond (is "," (getD s (st .place) 0)) (commaBefore s st (st .place + 1))
     (itemAt s st (st .place)))
+
+-- the step, by where its item begins
+unfoldable pub stepAt : List ℕ → State → Front → Step
+stepAt s st (front.Item at) = itemAt s st at
+stepAt s st (front.End at) = ended st at
+stepAt s st front.Refused = refusal s st InvalidExpression
+
+-- an item begins inside the text
+unfoldable pub Inside : List ℕ → Front → Type 0
+Inside s (front.Item at) = at < length s
+Inside s (front.End at) = Unit {0}
+Inside s front.Refused = Unit {0}

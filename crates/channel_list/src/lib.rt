@@ -2,7 +2,7 @@
 ghost use Prim.Native.Nat.{_<_};
 ghost use mathlib.Core.Path.{_≡_};
 ghost use lib.ListN.{length};
-ghost use Rattle.channel_list.specs.List.{opened, taken, refusal, beginsSpec, rangeTo, specsAt, pathAt, itemAt, commaBefore, step};
+ghost use Rattle.channel_list.specs.List.{opened, taken, refusal, beginsSpec, rangeTo, specsAt, pathAt, itemAt, step, stepAt, Inside};
 use channel_spec::ChannelSpec;
 use error::ErrorCode;
 use item::Read;
@@ -41,6 +41,13 @@ pub enum Opened {
     NotOne,
 }
 
+// Where the next item of a list begins, or what stands there in its place.
+enum Front {
+    Item(usize),
+    End(usize),
+    Refused,
+}
+
 // A text is a channel list where it begins with `@`.
 pub fn new(s: &[u8]) -> Opened
     ensures { λ r. ⌜ r ≡ opened (now (s .entry)) ⌝ }
@@ -65,29 +72,35 @@ pub fn next(s: &[u8], state: State) -> Step
             state,
         };
     }
-    if s[at] == b',' {
-        return comma(s, at + 1, state);
-    }
-    item(s, at, state)
-}
-
-// A comma before a place: not the first of the list, and the end may stand behind it.
-fn comma(s: &[u8], at: usize, state: State) -> Step
-    ensures { λ r. ⌜ r ≡ commaBefore (now (s .entry)) state at ⌝ }
-{
-    if state.first {
-        return refused(s, state, ErrorCode::InvalidExpression);
-    }
-    if s.len() <= at {
-        return Step {
+    match item_front(s, state) {
+        Front::Item(from) => item(s, from, state),
+        Front::End(place) => Step {
             answer: Answer::End,
             state: State {
-                place: at,
+                place,
                 first: state.first,
             },
-        };
+        },
+        Front::Refused => refused(s, state, ErrorCode::InvalidExpression),
     }
-    item(s, at, state)
+}
+
+// The next item begins at the place, or behind a comma there: one that is not the first of the list, and the end may stand behind it.
+fn item_front(s: &[u8], state: State) -> Front
+    requires { ⌜ state .place < length (now s) ⌝ }
+    ensures { λ r. ⌜ (stepAt (now (s .entry)) state r ≡ step (now (s .entry)) state) × Inside (now (s .entry)) r ⌝ }
+{
+    let at = state.place;
+    if s[at] != b',' {
+        return Front::Item(at);
+    }
+    if state.first {
+        return Front::Refused;
+    }
+    if s.len() <= at + 1 {
+        return Front::End(at + 1);
+    }
+    Front::Item(at + 1)
 }
 
 // An item, by the byte that it begins with.

@@ -16,11 +16,13 @@ use Rattle.token.specs.declared.Token as token
 use Rattle.item.specs.declared.Read.{Read}
 use Rattle.item.specs.declared.Read.the-variants as read
 use Rattle.decimal.specs.Decimal.{nrf}
-use Rattle.numeric_list.specs.List.{stateOf, taken, refusal, rangeBy, rangeTo, itemBy, itemAt, begins, commaBefore, step}
+use Rattle.numeric_list.specs.List.{stateOf, taken, refusal, rangeBy, rangeTo, itemBy, itemAt, begins, commaBefore, step, stepAt}
 use Rattle.numeric_list.specs.declared.State.{State}
 use Rattle.numeric_list.specs.declared.Token.{Token}
 use Rattle.numeric_list.specs.declared.Token.the-variants.{Numeric, NumericRange}
 use Rattle.numeric_list.specs.declared.Answer.the-variants as answer
+use Rattle.numeric_list.specs.declared.Front.{Front}
+use Rattle.numeric_list.specs.declared.Front.the-variants as front
 use Rattle.numeric_list.specs.declared.Step.{Step}
 
 pub taken-is′ : (t : Token) (next : ℕ) → record { answer = answer.Token t; state = stateOf next false } ≡ taken t next
@@ -77,32 +79,39 @@ module _ (s : List ℕ) (st : State) (at : ℕ) (x : Step) where
       unfolding itemAt itemBy standsAt
       item-range′ h c ex = ex ∙ rw (← er, e, lt-ltb next (length s) h, eq-eqb (getD s next 0) 58 c)
 
-  pub comma-first′ : st .first ≡ true → x ≡ refusal s st → x ≡ commaBefore s st at
-  unfolding commaBefore
-  comma-first′ q ex = ex ∙ rw q
-
-  pub comma-later′ : st .first ≡ false → x ≡ itemAt s st at → x ≡ commaBefore s st at
-  unfolding commaBefore
-  comma-later′ q ex = ex ∙ rw q
-
 -- The step, by the byte that stands at its place.
 module _ (s : List ℕ) (st : State) where
   pub end′ : length s ≤ st .place → record { answer = answer.End; state = st } ≡ step s st
   unfolding step
   end′ h = rw (le-leb (length s) (st .place) h)
 
-  module _ (h : st .place < length s) (x : Step) where
-    pub comma′ : getD s (st .place) 0 ≡ 44 → x ≡ commaBefore s st (st .place + 1) → x ≡ step s st
-    unfolding step
-    comma′ e ex = ex ∙ rw (lt-leb (length s) (st .place) h, eq-eqb (getD s (st .place) 0) 44 e)
+  -- where its item begins
+  module _ (h : st .place < length s) where
+    module _ (e : getD s (st .place) 0 ≡ 44) where
+      pub front-first′ : st .first ≡ true → stepAt s st front.Refused ≡ step s st
+      unfolding step stepAt commaBefore
+      front-first′ f = rw (lt-leb (length s) (st .place) h, eq-eqb (getD s (st .place) 0) 44 e, f)
+
+      pub front-behind′ : st .first ≡ false → stepAt s st (front.Item (st .place + 1)) ≡ step s st
+      unfolding step stepAt commaBefore
+      front-behind′ f = rw (lt-leb (length s) (st .place) h, eq-eqb (getD s (st .place) 0) 44 e, f)
 
     module _ (n : getD s (st .place) 0 ≡ 44 → ⊥) (r : Bool) (er : r ≡ begins (getD s (st .place) 0) (st .first)) where
-      pub other′ : not r ≡ true → x ≡ refusal s st → x ≡ step s st
-      unfolding step
-      other′ q ex = ex ∙ rw (lt-leb (length s) (st .place) h, ne-eqb (getD s (st .place) 0) 44 n, ← er, not-true r q)
+      pub front-other′ : not r ≡ true → stepAt s st front.Refused ≡ step s st
+      unfolding step stepAt
+      front-other′ q = rw (lt-leb (length s) (st .place) h, ne-eqb (getD s (st .place) 0) 44 n, ← er, not-true r q)
 
-      pub item′ : not r ≡ false → x ≡ itemAt s st (st .place) → x ≡ step s st
-      unfolding step
-      item′ q ex = ex ∙ rw (lt-leb (length s) (st .place) h, ne-eqb (getD s (st .place) 0) 44 n, ← er, not-false r q)
+      pub front-here′ : not r ≡ false → stepAt s st (front.Item (st .place)) ≡ step s st
+      unfolding step stepAt
+      front-here′ q = rw (lt-leb (length s) (st .place) h, ne-eqb (getD s (st .place) 0) 44 n, ← er, not-false r q)
 
-pub ruleset laws = (needs, taken-is′, refusal-is′, begins-digit′, begins-minus′, begins-plus′, begins-other′, range-well′, range-ill′, item-ill′, item-last′, item-alone′, item-range′, comma-first′, comma-later′, end′, comma′, other′, item′)
+  module _ (f : Front) (e : stepAt s st f ≡ step s st) (x : Step) where
+    pub item′ : (at : ℕ) → f ≡ front.Item at → x ≡ itemAt s st at → x ≡ step s st
+    unfolding stepAt
+    item′ at k ex = ex ∙ rw k at e
+
+    pub refused′ : f ≡ front.Refused → x ≡ refusal s st → x ≡ step s st
+    unfolding stepAt
+    refused′ k ex = ex ∙ rw k at e
+
+pub ruleset laws = (needs, taken-is′, refusal-is′, begins-digit′, begins-minus′, begins-plus′, begins-other′, range-well′, range-ill′, item-ill′, item-last′, item-alone′, item-range′, end′, front-first′, front-behind′, front-other′, front-here′, item′, refused′)

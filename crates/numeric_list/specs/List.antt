@@ -17,6 +17,8 @@ use Rattle.numeric_list.specs.declared.State.{State}
 use Rattle.numeric_list.specs.declared.Token.{Token}
 use Rattle.numeric_list.specs.declared.Token.the-variants.{Numeric, NumericRange}
 use Rattle.numeric_list.specs.declared.Answer.the-variants as answer
+use Rattle.numeric_list.specs.declared.Front.{Front}
+use Rattle.numeric_list.specs.declared.Front.the-variants as front
 use Rattle.numeric_list.specs.declared.Step.{Step}
 
 -- a place, and whether no item has been read yet
@@ -68,3 +70,8 @@ step s st =
     (cond (is "," (getD s (st .place) 0)) (commaBefore s st (st .place + 1))
     (cond (begins (getD s (st .place) 0) (st .first)) (itemAt s st (st .place))
     (refusal s st)))
+
+-- the step, by where its item begins
+unfoldable pub stepAt : List ℕ → State → Front → Step
+stepAt s st (front.Item at) = itemAt s st at
+stepAt s st front.Refused = refusal s st

@@ -1,6 +1,8 @@
 // Numeric lists, SCPI-99 8.3.3. expression/numeric_list.rs of the original.
+ghost use Prim.Native.Nat.{_<_};
 ghost use mathlib.Core.Path.{_≡_};
-ghost use Rattle.numeric_list.specs.List.{ofList, taken, refusal, begins, rangeTo, itemAt, commaBefore, step};
+ghost use lib.ListN.{length};
+ghost use Rattle.numeric_list.specs.List.{ofList, taken, refusal, begins, rangeTo, itemAt, step, stepAt};
 use error::ErrorCode;
 use item::Read;
 use token::View;
@@ -30,6 +32,12 @@ pub struct Step {
     pub state: State,
 }
 
+// Where the next item of a list begins, or that there is none.
+enum Front {
+    Item(usize),
+    Refused,
+}
+
 // The front of a numeric list.
 pub fn new() -> State
     ensures { λ r. ⌜ r ≡ ofList ⌝ }
@@ -51,24 +59,29 @@ pub fn next(s: &[u8], state: State) -> Step
             state,
         };
     }
-    let b = s[at];
-    if b == b',' {
-        return comma(s, at + 1, state);
+    match item_front(s, state) {
+        Front::Item(from) => item(s, from, state),
+        Front::Refused => refused(s, state),
     }
-    if !begins(b, state.first) {
-        return refused(s, state);
-    }
-    item(s, at, state)
 }
 
-// A comma before a place: not the first of the list, and a number stands behind it.
-fn comma(s: &[u8], at: usize, state: State) -> Step
-    ensures { λ r. ⌜ r ≡ commaBefore (now (s .entry)) state at ⌝ }
+// The next item begins behind a comma at the place, which is not the first of the list, or at the place itself.
+fn item_front(s: &[u8], state: State) -> Front
+    requires { ⌜ state .place < length (now s) ⌝ }
+    ensures { λ r. ⌜ stepAt (now (s .entry)) state r ≡ step (now (s .entry)) state ⌝ }
 {
-    if state.first {
-        return refused(s, state);
+    let at = state.place;
+    let b = s[at];
+    if b == b',' {
+        if state.first {
+            return Front::Refused;
+        }
+        return Front::Item(at + 1);
     }
-    item(s, at, state)
+    if !begins(b, state.first) {
+        return Front::Refused;
+    }
+    Front::Item(at)
 }
 
 // Whether an item begins with a byte, where no comma stands before it.

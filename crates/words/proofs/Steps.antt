@@ -1,34 +1,28 @@
 -- Laws of the steps, as the code meets them.
-use Prim.Native.Nat.{ℕ, _≤_, _<_}
+use Prim.Native.Nat.{ℕ}
 use mathlib.Core.Path.{_≡_, sym, ap, _∙_}
 use mathlib.Core.List.{List}
 use mathlib.Core.Bool.{true}
-use lib.IntN.{ℤ}
-use lib.ListN.{length}
+use lib.ListN.{getD}
 use borrow.Author.Needs.{needs}
-use borrow.Author.Tests.{le-leb, lt-leb}
-use Rattle.error.specs.Code.{codeOf}
-use Rattle.error.specs.declared.ErrorCode.the-variants.{NoSlotLeft, InvalidExpression}
+use Rattle.error.specs.declared.ErrorCode.the-variants.{InvalidExpression}
 use Rattle.record.specs.Word.{bit}
 use Rattle.token.specs.declared.Token as token
-use Rattle.tokenizer.specs.Step as tokenizer
 use Rattle.tokenizer.specs.declared.Answer as token-answer
 use Rattle.tokenizer.specs.declared.Step as token-step
-use Rattle.channel_list.specs.List as channel
 use Rattle.channel_list.specs.declared.State as channel-state
 use Rattle.channel_list.specs.declared.Token as channel-token
 use Rattle.channel_list.specs.declared.Answer as channel-answer
 use Rattle.channel_list.specs.declared.Step as channel-step
 use Rattle.channel_list.specs.declared.Opened.{Opened}
 use Rattle.channel_list.specs.declared.Opened.the-variants as opens
-use Rattle.numeric_list.specs.List as numeric
 use Rattle.numeric_list.specs.declared.Token as numeric-token
 use Rattle.numeric_list.specs.declared.Answer as numeric-answer
 use Rattle.numeric_list.specs.declared.Step as numeric-step
 use Rattle.words.specs.Outcome.{Outcome}
-use Rattle.words.specs.Words.{plainOf, refusedOf, wordsOf, stepped}
-use Rattle.words.specs.Token.{tokenItem, tokenSaid, tokenState, tokenWords}
-use Rattle.words.specs.Lists.{openedWords, channelItem, channelSaid, channelState, channelWords, numericItem, numericSaid, numericState, numericWords}
+use Rattle.words.specs.Words.{isSet, plainOf, refusedOf, leftIn}
+use Rattle.words.specs.Token.{tokenItem, tokenSaid, tokenState, tokenLeft}
+use Rattle.words.specs.Lists.{openedLeft, channelItem, channelSaid, channelState, channelLeft, numericItem, numericSaid, numericState, numericLeft}
 use Rattle.words.specs.declared.Said.{Said}
 
 -- told by the case that a token or an answer is
@@ -53,59 +47,62 @@ numeric-item′ = by-case numericItem
 pub numeric-said′ : (r : Said) (t u : numeric-answer.Answer) → t ≡ u → r ≡ numericSaid u → r ≡ numericSaid t
 numeric-said′ = by-case numericSaid
 
-pub ruleset token-items = (needs, token-item′)
+pub ruleset token-items = (tt, token-item′)
 
 pub ruleset token-answers = (needs, token-said′)
 
-pub ruleset channel-items = (needs, channel-item′)
+pub ruleset channel-items = (tt, channel-item′)
 
 pub ruleset channel-answers = (needs, channel-said′)
 
-pub ruleset numeric-items = (needs, numeric-item′)
+pub ruleset numeric-items = (tt, numeric-item′)
 
 pub ruleset numeric-answers = (needs, numeric-said′)
 
--- steps
+-- the states, word by word
 
-full : (words : List ℕ) (left o : Outcome ℕ) → 8 ≤ length words → o ≡ left → o ≡ stepped words left
-unfolding stepped
-full words left o h e = rw (le-leb 8 (length words) h) e
+module _ (words : List ℕ) (a b : ℕ) (ea : a ≡ getD words 0 0) (eb : b ≡ getD words 1 0) where
+  pub token-state′ : (c : ℕ) → c ≡ getD words 2 0 → record { place = a; in_header = isSet b; in_common = isSet c } ≡ tokenState words
+  token-state′ c ec = rw (ea, eb, ec)
 
-pub no-room′ : (words : List ℕ) (left : Outcome ℕ) (n : ℤ) → length words < 8 → n ≡ codeOf NoSlotLeft → record { code = n; words = words } ≡ stepped words left
-unfolding stepped
-no-room′ words left n h en = rw (lt-leb 8 (length words) h, en)
+  pub channel-state′ : record { place = a; first = isSet b } ≡ channelState words
+  channel-state′ = rw (ea, eb)
 
-module _ (s words : List ℕ) (h : 8 ≤ length words) (o : Outcome ℕ) (a : Said) where
-  pub token′ : (x : token-step.Step) → x ≡ tokenizer.step s (tokenState words) → (c : ℕ) → c ≡ bit (x .state .in_common) → a ≡ tokenSaid (x .answer)
-      → o ≡ wordsOf (x .state .place) (x .state .in_header) c a words → o ≡ stepped words (tokenWords (tokenizer.step s (tokenState words)) words)
-  unfolding tokenWords
-  token′ x ex c ec ea e = full words _ o h (e ∙ rw (ec, ea, ex))
+  pub numeric-state′ : record { place = a; first = isSet b } ≡ numericState words
+  numeric-state′ = rw (ea, eb)
 
-  pub channel′ : (x : channel-step.Step) → x ≡ channel.step s (channelState words) → a ≡ channelSaid (x .answer)
-      → o ≡ wordsOf (x .state .place) (x .state .first) (a .dimension) a words → o ≡ stepped words (channelWords (channel.step s (channelState words)) words)
-  unfolding channelWords
-  channel′ x ex ea e = full words _ o h (e ∙ rw (ea, ex))
+pub ruleset states = (needs, token-state′, channel-state′, numeric-state′)
 
-  pub numeric′ : (x : numeric-step.Step) → x ≡ numeric.step s (numericState words) → a ≡ numericSaid (x .answer)
-      → o ≡ wordsOf (x .state .place) (x .state .first) 0 a words → o ≡ stepped words (numericWords (numeric.step s (numericState words)) words)
-  unfolding numericWords
-  numeric′ x ex ea e = full words _ o h (e ∙ rw (ea, ex))
+-- the steps
 
-  module _ (x : Opened) (ex : x ≡ channel.opened s) where
-    pub opened′ : (st : channel-state.State) → x ≡ opens.List st → a ≡ plainOf 0 → o ≡ wordsOf (st .place) (st .first) 0 a words
-        → o ≡ stepped words (openedWords s (channel.opened s) words)
-    unfolding openedWords
-    opened′ st q ea e = full words _ o h (e ∙ rw (ea, ← ex, q))
+module _ (words : List ℕ) (o : Outcome ℕ) (a : Said) where
+  pub token′ : (x : token-step.Step) (c : ℕ) → c ≡ bit (x .state .in_common) → a ≡ tokenSaid (x .answer)
+      → o ≡ leftIn words (x .state .place) (x .state .in_header) c a → o ≡ tokenLeft words x
+  unfolding tokenLeft
+  token′ x c ec ea e = e ∙ rw (ec, ea)
 
-    pub not-one′ : x ≡ opens.NotOne → a ≡ refusedOf InvalidExpression → o ≡ wordsOf (length s) true 0 a words
-        → o ≡ stepped words (openedWords s (channel.opened s) words)
-    unfolding openedWords
-    not-one′ q ea e = full words _ o h (e ∙ rw (ea, ← ex, q))
+  pub channel′ : (x : channel-step.Step) → a ≡ channelSaid (x .answer) → o ≡ leftIn words (x .state .place) (x .state .first) (a .dimension) a
+      → o ≡ channelLeft words x
+  unfolding channelLeft
+  channel′ x ea e = e ∙ rw ea
 
-pub ruleset token-laws = (needs, no-room′, token′)
+  pub numeric′ : (x : numeric-step.Step) → a ≡ numericSaid (x .answer) → o ≡ leftIn words (x .state .place) (x .state .first) 0 a → o ≡ numericLeft words x
+  unfolding numericLeft
+  numeric′ x ea e = e ∙ rw ea
 
-pub ruleset channel-laws = (needs, no-room′, channel′)
+  module _ (end : ℕ) (x : Opened) where
+    pub opened′ : (st : channel-state.State) → x ≡ opens.List st → a ≡ plainOf 0 → o ≡ leftIn words (st .place) (st .first) 0 a → o ≡ openedLeft words end x
+    unfolding openedLeft
+    opened′ st q ea e = e ∙ rw (ea, q)
 
-pub ruleset numeric-laws = (needs, no-room′, numeric′)
+    pub not-one′ : x ≡ opens.NotOne → a ≡ refusedOf InvalidExpression → o ≡ leftIn words end true 0 a → o ≡ openedLeft words end x
+    unfolding openedLeft
+    not-one′ q ea e = e ∙ rw (ea, q)
 
-pub ruleset open-laws = (needs, no-room′, opened′, not-one′)
+pub ruleset token-laws = (needs, token′)
+
+pub ruleset channel-laws = (needs, channel′)
+
+pub ruleset numeric-laws = (needs, numeric′)
+
+pub ruleset open-laws = (needs, opened′, not-one′)

@@ -1,23 +1,24 @@
--- What a token step answers C: the kind of the token, its views, and the state behind it.
+-- The words of a token step: the place, whether it is in a header, whether in a common command, and the token.
 use Prim.Native.Nat.{ℕ}
 use mathlib.Core.List.{List}
-use mathlib.Core.Bool.{Bool, cond}
-use lib.Dec.{leb}
 use lib.IntN.{pos}
-use lib.ListN.{length, getD}
+use lib.ListN.{getD}
 use Rattle.record.specs.Word.{bit}
 use Rattle.token.specs.declared.Token.{Token}
 use Rattle.token.specs.declared.Token.the-variants.{HeaderMnemonicSeparator, HeaderQuerySuffix, ProgramMessageUnitSeparator, ProgramHeaderSeparator, ProgramDataSeparator, ProgramMnemonic, CharacterProgramData, DecimalNumericProgramData, DecimalNumericSuffixProgramData, NonDecimalNumericProgramData, StringProgramData, ArbitraryBlockData, ExpressionProgramData}
-use Rattle.tokenizer.specs.Step.{stateOf, step}
 use Rattle.tokenizer.specs.declared.State.{State}
 use Rattle.tokenizer.specs.declared.Step.{Step}
 use Rattle.tokenizer.specs.declared.Answer.{Answer}
 use Rattle.tokenizer.specs.declared.Answer.the-variants as answer
 use Rattle.words.specs.Outcome.{Outcome}
-use Rattle.words.specs.Words.{saidOf, plainOf, oneOf, twoOf, refusedOf, isSet, wordsOf, stepped}
+use Rattle.words.specs.Words.{isSet, saidOf, plainOf, oneOf, twoOf, refusedOf, leftIn}
 use Rattle.words.specs.declared.Said.{Said}
 
--- the kinds of tokens, 1 to 13, and what each names
+-- the state that a step begins with; a word that is not there is 0
+abbrev pub tokenState : List ℕ → State
+tokenState words = record { place = getD words 0 0; in_header = isSet (getD words 1 0); in_common = isSet (getD words 2 0) }
+
+-- the kinds of tokens and their views; a number in another radix has its value in the place of a view
 abbrev pub tokenItem : Token → Said
 tokenItem HeaderMnemonicSeparator = plainOf 1
 tokenItem HeaderQuerySuffix = plainOf 2
@@ -39,14 +40,6 @@ tokenSaid (answer.Token t) = tokenItem t
 tokenSaid answer.End = plainOf 0
 tokenSaid (answer.Refused e) = refusedOf e
 
--- the state in the words: the place, whether it is in a header, and whether in a common command
-abbrev pub tokenState : List ℕ → State
-tokenState words = stateOf (getD words 0 0) (isSet (getD words 1 0)) (isSet (getD words 2 0))
-
--- the words of a step
-unfoldable pub tokenWords : Step → List ℕ → Outcome ℕ
-tokenWords x words = wordsOf (x .state .place) (x .state .in_header) (bit (x .state .in_common)) (tokenSaid (x .answer)) words
-
--- the next token of a text, from the state in the words
-abbrev pub tokenStep : List ℕ → List ℕ → Outcome ℕ
-tokenStep s words = stepped words (tokenWords (step s (tokenState words)) words)
+-- what a step leaves in the words
+unfoldable pub tokenLeft : List ℕ → Step → Outcome ℕ
+tokenLeft words x = leftIn words (x .state .place) (x .state .in_header) (bit (x .state .in_common)) (tokenSaid (x .answer))

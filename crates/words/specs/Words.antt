@@ -1,4 +1,4 @@
--- The eight words of a step.
+-- The eight words of a step: the place, a flag, a flag or the dimension, the kind, and two views.
 use Prim.Native.Nat.{ℕ}
 use mathlib.Core.List.{List, [], _∷_}
 use mathlib.Core.Bool.{Bool, cond, not}
@@ -13,10 +13,16 @@ use Rattle.token.specs.declared.View.{View}
 use Rattle.words.specs.Outcome.{Outcome}
 use Rattle.words.specs.declared.Said.{Said}
 
+-- a flag is set by any word but 0
+abbrev pub isSet : ℕ → Bool
+isSet w = not (eqb w 0)
+
+-- a number that is returned, a dimension, a kind, and two views
 abbrev pub saidOf : ℤ → ℕ → ℕ → ℕ → ℕ → ℕ → ℕ → Said
 saidOf code dimension kind start end start2 end2 =
     record { code = code; dimension = dimension; kind = kind; start = start; end = end; start_2 = start2; end_2 = end2 }
 
+-- a kind without views, with one view, and with a dimension and two views
 abbrev pub plainOf : ℕ → Said
 plainOf kind = saidOf (pos 0) 0 kind 0 0 0 0
 
@@ -26,17 +32,13 @@ oneOf kind v = saidOf (pos 0) 0 kind (v .start) (v .end) 0 0
 abbrev pub twoOf : ℕ → ℕ → View → View → Said
 twoOf kind dimension v u = saidOf (pos 0) dimension kind (v .start) (v .end) (u .start) (u .end)
 
+-- a refusal has the kind 0 and no view
 abbrev pub refusedOf : ErrorCode → Said
 refusedOf e = saidOf (codeOf e) 0 0 0 0 0 0
 
-unfoldable pub wordsOf : ℕ → Bool → ℕ → Said → List ℕ → Outcome ℕ
-wordsOf place second third s words =
-    record { code = s .code; words = place ∷ bit second ∷ third ∷ s .kind ∷ s .start ∷ s .end ∷ s .start_2 ∷ s .end_2 ∷ drop 8 words }
-
--- a flag is any word but 0
-abbrev pub isSet : ℕ → Bool
-isSet w = not (eqb w 0)
-
--- what a step leaves, where there are eight words; else it is 8 and nothing is written
-unfoldable pub stepped : List ℕ → Outcome ℕ → Outcome ℕ
-stepped words left = cond (leb 8 (length words)) left (record { code = codeOf NoSlotLeft; words = words })
+-- What is left in the words: the first eight are these, and those behind them stay. With fewer than eight the number is 8, and all stay.
+unfoldable pub leftIn : List ℕ → ℕ → Bool → ℕ → Said → Outcome ℕ
+leftIn words place second third s =
+    cond (leb 8 (length words))
+    (record { code = s .code; words = place ∷ bit second ∷ third ∷ s .kind ∷ s .start ∷ s .end ∷ s .start_2 ∷ s .end_2 ∷ drop 8 words })
+    (record { code = codeOf NoSlotLeft; words = words })

@@ -1,18 +1,18 @@
-// The steps of messages and lists over eight lent words: the state of a step is read there, and its answer is left there, as numbers.
-ghost use Prim.Native.Nat.{_≤_};
+// The answers of the steps of messages and lists, left as numbers in eight lent words; and the states that the steps begin with, in the
+// same words.
 ghost use mathlib.Core.Path.{_≡_};
-ghost use lib.ListN.{length};
+ghost use lib.ListN.{getD};
 ghost use Rattle.record.specs.Word.{bit};
 ghost use Rattle.words.specs.Outcome.{Outcome};
-ghost use Rattle.words.specs.Words.{plainOf, oneOf, twoOf, refusedOf, wordsOf};
-ghost use Rattle.words.specs.Token.{tokenItem, tokenSaid, tokenStep};
-ghost use Rattle.words.specs.Lists.{openStep, channelItem, channelSaid, channelStep, numericItem, numericSaid, numericStep};
+ghost use Rattle.words.specs.Words.{plainOf, oneOf, twoOf, refusedOf, leftIn};
+ghost use Rattle.words.specs.Token.{tokenItem, tokenSaid, tokenState, tokenLeft};
+ghost use Rattle.words.specs.Lists.{openedLeft, channelItem, channelSaid, channelState, channelLeft, numericItem, numericSaid, numericState, numericLeft};
 use channel_list::Opened;
 use error::ErrorCode;
 use token::Token;
 use token::View;
 
-// What a step says: its number, and the words from the third on.
+// What a step says: its number, the dimension, the kind and the views.
 struct Said {
     code: i16,
     dimension: u64,
@@ -23,11 +23,104 @@ struct Said {
     end_2: u64,
 }
 
-// The words of a step, over the first eight; the number of the answer.
-fn put(words: &mut [u64], place: usize, second: bool, third: u64, said: Said) -> i16
-    requires { ⌜ 8 ≤ length (now words) ⌝ }
-    ensures { λ r. ⌜ record { code = r; words = now (words .exit) } ≡ wordsOf place second third said (now (words .entry)) ⌝ }
+// The state that a token step begins with.
+pub fn token_state(words: &[u64]) -> tokenizer::State
+    ensures { λ r. ⌜ r ≡ tokenState (now (words .entry)) ⌝ }
 {
+    tokenizer::State {
+        place: word(words, 0) as usize,
+        in_header: word(words, 1) != 0,
+        in_common: word(words, 2) != 0,
+    }
+}
+
+// The state that a step of a channel list begins with.
+pub fn channel_state(words: &[u64]) -> channel_list::State
+    ensures { λ r. ⌜ r ≡ channelState (now (words .entry)) ⌝ }
+{
+    channel_list::State {
+        place: word(words, 0) as usize,
+        first: word(words, 1) != 0,
+    }
+}
+
+// The state that a step of a numeric list begins with.
+pub fn numeric_state(words: &[u64]) -> numeric_list::State
+    ensures { λ r. ⌜ r ≡ numericState (now (words .entry)) ⌝ }
+{
+    numeric_list::State {
+        place: word(words, 0) as usize,
+        first: word(words, 1) != 0,
+    }
+}
+
+// A word, or 0 where there is none.
+fn word(words: &[u64], at: usize) -> u64
+    ensures { λ r. ⌜ r ≡ getD (now (words .entry)) at 0 ⌝ }
+{
+    if words.len() <= at {
+        return 0;
+    }
+    words[at]
+}
+
+// Leaves the answer of a token step.
+pub fn put_token(words: &mut [u64], step: tokenizer::Step) -> i16
+    ensures { λ r. ⌜ record { code = r; words = now (words .exit) } ≡ tokenLeft (now (words .entry)) step ⌝ }
+{
+    let answer = step.answer;
+    let state = step.state;
+    put(
+        words,
+        state.place,
+        state.in_header,
+        flag(state.in_common),
+        token_said(answer),
+    )
+}
+
+// Leaves what a text of so many bytes opens as: the front of a channel list, or that it is none.
+pub fn put_opened(words: &mut [u64], length: usize, opened: Opened) -> i16
+    ensures { λ r. ⌜ record { code = r; words = now (words .exit) } ≡ openedLeft (now (words .entry)) length opened ⌝ }
+{
+    match opened {
+        Opened::List(state) => put(words, state.place, state.first, 0, plain(0)),
+        Opened::NotOne => put(
+            words,
+            length,
+            true,
+            0,
+            refused(ErrorCode::InvalidExpression),
+        ),
+    }
+}
+
+// Leaves the answer of a step of a channel list.
+pub fn put_channel(words: &mut [u64], step: channel_list::Step) -> i16
+    ensures { λ r. ⌜ record { code = r; words = now (words .exit) } ≡ channelLeft (now (words .entry)) step ⌝ }
+{
+    let answer = step.answer;
+    let state = step.state;
+    let said = channel_said(answer);
+    put(words, state.place, state.first, said.dimension, said)
+}
+
+// Leaves the answer of a step of a numeric list.
+pub fn put_numeric(words: &mut [u64], step: numeric_list::Step) -> i16
+    ensures { λ r. ⌜ record { code = r; words = now (words .exit) } ≡ numericLeft (now (words .entry)) step ⌝ }
+{
+    let answer = step.answer;
+    let state = step.state;
+    put(words, state.place, state.first, 0, numeric_said(answer))
+}
+
+// The first eight words, where there are as many, and the number of the answer.
+fn put(words: &mut [u64], place: usize, second: bool, third: u64, said: Said) -> i16
+    ensures { λ r. ⌜ record { code = r; words = now (words .exit) } ≡ leftIn (now (words .entry)) place second third said ⌝ }
+{
+    if words.len() < 8 {
+        return ErrorCode::NoSlotLeft.get_code();
+    }
     words[0] = place as u64;
     words[1] = flag(second);
     words[2] = third;
@@ -105,32 +198,6 @@ fn refused(e: ErrorCode) -> Said
     }
 }
 
-// One token step. The words are place, in-header, in-common; then kind and what the token names.
-pub fn token_step(text: &[u8], words: &mut [u64]) -> i16
-    ensures { λ r. ⌜ record { code = r; words = now (words .exit) } ≡ tokenStep (now (text .entry)) (now (words .entry)) ⌝ }
-{
-    if words.len() < 8 {
-        return ErrorCode::NoSlotLeft.get_code();
-    }
-    let step = tokenizer::next(
-        text,
-        tokenizer::State {
-            place: words[0] as usize,
-            in_header: words[1] != 0,
-            in_common: words[2] != 0,
-        },
-    );
-    let answer = step.answer;
-    let state = step.state;
-    put(
-        words,
-        state.place,
-        state.in_header,
-        flag(state.in_common),
-        token_said(answer),
-    )
-}
-
 // The end and a refusal have no kind.
 fn token_said(answer: tokenizer::Answer) -> Said
     ensures { λ r. ⌜ r ≡ tokenSaid answer ⌝ }
@@ -170,45 +237,6 @@ fn token_item(token: Token) -> Said
     }
 }
 
-// Opens a channel list: -171 where the text is not one.
-pub fn open_channel_list(text: &[u8], words: &mut [u64]) -> i16
-    ensures { λ r. ⌜ record { code = r; words = now (words .exit) } ≡ openStep (now (text .entry)) (now (words .entry)) ⌝ }
-{
-    if words.len() < 8 {
-        return ErrorCode::NoSlotLeft.get_code();
-    }
-    match channel_list::new(text) {
-        Opened::List(state) => put(words, state.place, state.first, 0, plain(0)),
-        Opened::NotOne => put(
-            words,
-            text.len(),
-            true,
-            0,
-            refused(ErrorCode::InvalidExpression),
-        ),
-    }
-}
-
-// One step of a channel list. The words are place, first, dimension; then kind and the parts.
-pub fn channel_step(text: &[u8], words: &mut [u64]) -> i16
-    ensures { λ r. ⌜ record { code = r; words = now (words .exit) } ≡ channelStep (now (text .entry)) (now (words .entry)) ⌝ }
-{
-    if words.len() < 8 {
-        return ErrorCode::NoSlotLeft.get_code();
-    }
-    let step = channel_list::next(
-        text,
-        channel_list::State {
-            place: words[0] as usize,
-            first: words[1] != 0,
-        },
-    );
-    let answer = step.answer;
-    let state = step.state;
-    let said = channel_said(answer);
-    put(words, state.place, state.first, said.dimension, said)
-}
-
 fn channel_said(answer: channel_list::Answer) -> Said
     ensures { λ r. ⌜ r ≡ channelSaid answer ⌝ }
 {
@@ -229,25 +257,6 @@ fn channel_item(token: channel_list::Token) -> Said
         channel_list::Token::ChannelRange(spec, end) => two(2, spec.dimension, spec.view, end.view),
         channel_list::Token::PathName(view) => one(3, view),
     }
-}
-
-// One step of a numeric list, in the same words.
-pub fn numeric_step(text: &[u8], words: &mut [u64]) -> i16
-    ensures { λ r. ⌜ record { code = r; words = now (words .exit) } ≡ numericStep (now (text .entry)) (now (words .entry)) ⌝ }
-{
-    if words.len() < 8 {
-        return ErrorCode::NoSlotLeft.get_code();
-    }
-    let step = numeric_list::next(
-        text,
-        numeric_list::State {
-            place: words[0] as usize,
-            first: words[1] != 0,
-        },
-    );
-    let answer = step.answer;
-    let state = step.state;
-    put(words, state.place, state.first, 0, numeric_said(answer))
 }
 
 fn numeric_said(answer: numeric_list::Answer) -> Said

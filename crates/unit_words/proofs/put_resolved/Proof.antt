@@ -1,6 +1,6 @@
-use Rattle.firmware.proofs.Tree.{header-laws}
-use Rattle.firmware.proofs.put_resolved.Statement.{statement}
-use Rattle.firmware.proofs.put_resolved.Tie as tie
+use Rattle.unit_words.proofs.Laws.{header-laws}
+use Rattle.unit_words.proofs.put_resolved.Statement.{statement}
+use Rattle.unit_words.proofs.put_resolved.Tie as tie
 
 enum-known-resolved : tie.Need-enum-known-resolved
 enum-known-resolved c = search header-laws

@@ -1,0 +1,15 @@
+use Rattle.words.proofs.Steps.{states}
+use Rattle.words.proofs.numeric_state.Statement.{statement}
+use Rattle.words.proofs.numeric_state.Tie as tie
+
+word-requires : tie.Need-word-requires
+word-requires c κs = search states
+
+word-requires-2 : tie.Need-word-requires-2
+word-requires-2 c κs = search states
+
+returns : tie.Need-returns
+returns c = search states
+
+pub numeric-state-spec : {M : Type 1} → statement M
+numeric-state-spec = tie.close (tie.spec word-requires word-requires-2 returns)

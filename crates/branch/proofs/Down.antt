@@ -1,6 +1,6 @@
 -- Laws of the ways down, as the code meets them.
 use Prim.Native.Nat.{ℕ, _-_, _<_}
-use mathlib.Core.Path.{_≡_, sym, _∙_}
+use mathlib.Core.Path.{_≡_, sym, subst, _∙_}
 use mathlib.Core.List.{List}
 use mathlib.Core.Bool.{Bool, true, false}
 use native.Mathlib.Omega.{arith}
@@ -19,32 +19,32 @@ use Rattle.branch.proofs.Picks.{below-in}
 pub picked : {t : List ℕ} {b k : ℕ} {q : ℕ → Bool} → Picks t b q (pick.Child k) → Below t b k
 picked (first-one x e f) = x
 
--- a child lies deeper in the table than its branch, and so does what is found and the leaf that is reached
+-- a child stands in the table, nearer to its end than its branch, and so does what is found
 
-pub deeper : {t : List ℕ} {b k : ℕ} {q : ℕ → Bool} → Picks t b q (pick.Child k) → (b < k) × (k < length t)
+pub deeper : {t : List ℕ} {b k : ℕ} {q : ℕ → Bool} → Picks t b q (pick.Child k) → (k < length t) × (length t - k < length t - b)
 deeper x =
     let y = picked x in
-    (omega (arith, y .behind, y .child .from), below-in y)
+    let l = below-in y in
+    (l, omega (arith, l, y .behind, y .child .from))
 
-pub found-deeper : {t names w : List ℕ} {b h k : ℕ} → Finds t names w b (found.Child h k) → (b < k) × (k < length t)
+pub found-deeper : {t names w : List ℕ} {b h k : ℕ} → Finds t names w b (found.Child h k) → (k < length t) × (length t - k < length t - b)
 found-deeper (here x) = deeper x
 found-deeper (under x d z) =
-    let y = deeper d in
+    let y = deeper d .1 in
     let v = found-deeper z in
-    (omega (arith, y .0, v .0), v .1)
+    let u = v .1 in
+    (v .0, omega (arith, y, u))
 
 pub leaf-inside : {t : List ℕ} {b k : ℕ} → Settles t b (pick.Child k) → k < length t
-leaf-inside (at-leaf d e) = deeper d .1
+leaf-inside (at-leaf d e) = deeper d .0
 leaf-inside (onward d e z) = leaf-inside z
 
 module _ (t : List ℕ) (b k : ℕ) (p : Pick) (e : p ≡ pick.Child k) (x : Picks t b (unsaidIn t) p) where
   pub child-in′ : k < length t
-  child-in′ = deeper (rw e at x) .1
+  child-in′ = deeper (rw e at x) .0
 
   pub deeper′ : (μ : ℕ) → length t - b ≡ μ → length t - k < μ
-  deeper′ μ h =
-      let y : (b < k) × (k < length t) = deeper (rw e at x) in
-      omega (arith, h, y .0, y .1)
+  deeper′ μ h = subst (λ (n : ℕ). length t - k < n) h (deeper (rw e at x) .1)
 
 pub ruleset down-laws = (needs, child-in′, deeper′)
 

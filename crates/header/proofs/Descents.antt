@@ -3,7 +3,6 @@ use Prim.Native.Nat.{ℕ, _-_, _<_}
 use mathlib.Core.Path.{_≡_, refl, sym, _∙_}
 use mathlib.Core.List.{List}
 use mathlib.Core.Bool.{Bool, true, false, not}
-use native.Mathlib.Omega.{arith}
 use lib.ListN.{length, getD}
 use borrow.Author.Needs.{needs}
 use borrow.Author.Tests.{not-true, not-false}
@@ -75,12 +74,10 @@ leaf-in′ t n p z k e = leaf-inside (rw e at z)
 
 module _ (t names v : List ℕ) (n : ℕ) (f : Found) (z : Finds t names v n f) (g k : ℕ) (e : f ≡ found.Child g k) where
   pub child-in′ : k < length t
-  child-in′ = found-deeper (rw e at z) .1
+  child-in′ = found-deeper (rw e at z) .0
 
   pub less′ : length t - k < length t - n
-  less′ =
-      let y : (n < k) × (k < length t) = found-deeper (rw e at z) in
-      omega (arith, y .0, y .1)
+  less′ = found-deeper (rw e at z) .1
 
 pub ruleset place-laws = (needs, leaf-in′, child-in′, less′)
 

@@ -1,9 +1,12 @@
 -- Laws of the steps over words, as the code meets them.
-use Prim.Native.Nat.{ℕ}
+use Prim.Native.Nat.{ℕ, _<_}
 use mathlib.Core.Path.{_≡_, _∙_}
 use mathlib.Core.List.{List}
+use lib.IntN.{ℤ}
 use lib.ListN.{length}
 use borrow.Author.Needs.{needs}
+use Rattle.error.specs.Code.{codeOf}
+use Rattle.error.specs.declared.ErrorCode.the-variants.{NoSlotLeft}
 use Rattle.tokenizer.specs.Step as tokens
 use Rattle.tokenizer.specs.declared.State as token-state
 use Rattle.tokenizer.specs.declared.Step as token-step
@@ -11,10 +14,12 @@ use Rattle.channel_list.specs.List as channels
 use Rattle.channel_list.specs.declared.State as channel-state
 use Rattle.channel_list.specs.declared.Step as channel-step
 use Rattle.channel_list.specs.declared.Opened.{Opened}
+use Rattle.channel_list.specs.declared.Opened.the-variants as opens
 use Rattle.numeric_list.specs.List as numbers
 use Rattle.numeric_list.specs.declared.State as numeric-state
 use Rattle.numeric_list.specs.declared.Step as numeric-step
 use Rattle.words.specs.Outcome.{Outcome}
+use Rattle.words.proofs.Words.{no-room′}
 use Rattle.words.specs.Token.{tokenState, tokenLeft}
 use Rattle.words.specs.Lists.{openedLeft, channelState, channelLeft, numericState, numericLeft}
 
@@ -34,10 +39,30 @@ module _ (s words : List ℕ) (o : Outcome ℕ) where
       → o ≡ numericLeft words (numbers.step s (numericState words))
   numeric′ st x es ex e = e ∙ rw (ex, es)
 
-pub ruleset token-laws = (needs, token′)
+-- too few words
 
-pub ruleset open-laws = (needs, open′)
+module _ (words : List ℕ) (n : ℤ) (h : length words < 8) (en : n ≡ codeOf NoSlotLeft) where
+  pub no-token′ : (x : token-step.Step) → record { code = n; words = words } ≡ tokenLeft words x
+  unfolding tokenLeft
+  no-token′ x = no-room′ words _ _ _ _ n h en
 
-pub ruleset channel-laws = (needs, channel′)
+  pub no-channel′ : (x : channel-step.Step) → record { code = n; words = words } ≡ channelLeft words x
+  unfolding channelLeft
+  no-channel′ x = no-room′ words _ _ _ _ n h en
 
-pub ruleset numeric-laws = (needs, numeric′)
+  pub no-number′ : (x : numeric-step.Step) → record { code = n; words = words } ≡ numericLeft words x
+  unfolding numericLeft
+  no-number′ x = no-room′ words _ _ _ _ n h en
+
+  pub no-list′ : (end : ℕ) (x : Opened) → record { code = n; words = words } ≡ openedLeft words end x
+  unfolding openedLeft
+  no-list′ end (opens.List st) = no-room′ words _ _ _ _ n h en
+  no-list′ end opens.NotOne = no-room′ words _ _ _ _ n h en
+
+pub ruleset token-laws = (needs, no-token′, token′)
+
+pub ruleset open-laws = (needs, no-list′, open′)
+
+pub ruleset channel-laws = (needs, no-channel′, channel′)
+
+pub ruleset numeric-laws = (needs, no-number′, numeric′)

@@ -1,4 +1,4 @@
--- Laws of tables, headers and messages, as the code meets them.
+-- Laws of headers and messages, as the code meets them.
 use Prim.Native.Nat.{ℕ}
 use mathlib.Core.Path.{_≡_, refl}
 use mathlib.Core.List.{List, [], _∷_}
@@ -8,20 +8,13 @@ use lib.ListN.{length}
 use borrow.Author.Needs.{needs}
 use Rattle.error.specs.Code.{codeOf}
 use Rattle.error.specs.declared.ErrorCode.the-variants.{NoSlotLeft}
-use Rattle.table.specs.Fault.{Verdict}
-use Rattle.table.specs.declared.Checked.{Checked}
 use Rattle.tree.specs.declared.Resolved.{Resolved}
 use Rattle.record.specs.declared.Record.{Record}
 use Rattle.message.specs.Message.{Ending, Walks}
 use Rattle.message.specs.declared.Walked.{Walked}
 use Rattle.words.specs.Outcome.{Outcome}
-use Rattle.unit_words.specs.Answers.{checkedCode, resolvedIn, walkedIn}
-use Rattle.firmware.specs.Tree.{Checks, Resolving, Walking, no-word, walks}
-
-pub checks′ : (t names : List ℕ) (x : Checked) (n : ℤ) → Verdict t names x → n ≡ checkedCode x → Checks t names n
-checks′ t names x n v e = record { says = x; verdict = v; code = e }
-
-pub ruleset check-laws = (needs, checks′)
+use Rattle.unit_words.specs.Answers.{resolvedIn, walkedIn}
+use Rattle.firmware.specs.Tree.{Resolving, Walking, no-word, walks}
 
 pub resolving′ : (R : Resolved → Type 0) (slots after : List ℕ) (x : Resolved) (n : ℤ) → R x → record { code = n; words = after } ≡ resolvedIn slots x
     → Resolving R slots n after

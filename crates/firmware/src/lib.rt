@@ -98,6 +98,9 @@ pub extern "C" fn vinderaz_walk_accepted(
 pub extern "C" fn vinderaz_token(text: &[u8], words: &mut [u64]) -> i16
     ensures { λ r. ⌜ record { code = r; words = now (words .exit) } ≡ tokenStep (now (text .entry)) (now (words .entry)) ⌝ }
 {
+    if words.len() < 8 {
+        return ErrorCode::NoSlotLeft.get_code();
+    }
     let state = words::token_state(words);
     words::put_token(words, tokenizer::next(text, state))
 }
@@ -107,6 +110,9 @@ pub extern "C" fn vinderaz_token(text: &[u8], words: &mut [u64]) -> i16
 pub extern "C" fn vinderaz_channel_list(text: &[u8], words: &mut [u64]) -> i16
     ensures { λ r. ⌜ record { code = r; words = now (words .exit) } ≡ openStep (now (text .entry)) (now (words .entry)) ⌝ }
 {
+    if words.len() < 8 {
+        return ErrorCode::NoSlotLeft.get_code();
+    }
     words::put_opened(words, text.len(), channel_list::new(text))
 }
 
@@ -115,6 +121,9 @@ pub extern "C" fn vinderaz_channel_list(text: &[u8], words: &mut [u64]) -> i16
 pub extern "C" fn vinderaz_channel(text: &[u8], words: &mut [u64]) -> i16
     ensures { λ r. ⌜ record { code = r; words = now (words .exit) } ≡ channelStep (now (text .entry)) (now (words .entry)) ⌝ }
 {
+    if words.len() < 8 {
+        return ErrorCode::NoSlotLeft.get_code();
+    }
     let state = words::channel_state(words);
     words::put_channel(words, channel_list::next(text, state))
 }
@@ -124,6 +133,9 @@ pub extern "C" fn vinderaz_channel(text: &[u8], words: &mut [u64]) -> i16
 pub extern "C" fn vinderaz_numeric(text: &[u8], words: &mut [u64]) -> i16
     ensures { λ r. ⌜ record { code = r; words = now (words .exit) } ≡ numericStep (now (text .entry)) (now (words .entry)) ⌝ }
 {
+    if words.len() < 8 {
+        return ErrorCode::NoSlotLeft.get_code();
+    }
     let state = words::numeric_state(words);
     words::put_numeric(words, numeric_list::next(text, state))
 }

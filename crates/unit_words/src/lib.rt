@@ -51,12 +51,15 @@ pub fn put_walked(units: &mut [u64], walked: Walked) -> i16
         return ErrorCode::NoSlotLeft.get_code();
     }
     match walked {
-        Walked::Units(n) => {
-            units[0] = n as u64;
+        Walked::Units(all) => {
+            units[0] = all as u64;
             return 0;
         }
-        Walked::Refused { units: n, error } => {
-            units[0] = n as u64;
+        Walked::Refused {
+            units: before,
+            error,
+        } => {
+            units[0] = before as u64;
             return error.get_code();
         }
     }

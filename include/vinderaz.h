@@ -87,7 +87,7 @@ bool vinderaz_mnemonic_match(const uint8_t *name, size_t name_length, const uint
 int16_t vinderaz_resolve(const uint64_t *nodes, size_t node_count, const uint8_t *names, size_t names_length,
                          size_t start, const uint8_t *text, size_t text_length, uint64_t *slots, size_t slot_count);
 
-/* The same without the check, for a table that vinderaz_check has accepted. On another table it answers too, and never 1 to 6. */
+/* The same without the check, for a table that vinderaz_check has accepted. On another table it answers too, and does not look for faults. */
 int16_t vinderaz_resolve_accepted(const uint64_t *nodes, size_t node_count, const uint8_t *names, size_t names_length,
                                   size_t start, const uint8_t *text, size_t text_length, uint64_t *slots, size_t slot_count);
 

@@ -28,7 +28,7 @@ use Rattle.header.specs.declared.Header.{Header}
 use Rattle.header.specs.declared.Header.the-variants as header
 
 -- a node from which a word spells a child is a branch
-holds : {t names w : List ℕ} {n g k : ℕ} → Finds t names w n (found.Child g k) → branch t n ≡ true
+pub holds : {t names w : List ℕ} {n g k : ℕ} → Finds t names w n (found.Child g k) → branch t n ≡ true
 holds (here x) = picked x .child .holder
 holds (under x d z) = picked d .child .holder
 
@@ -44,12 +44,12 @@ word-over t names s h n w st m = leaf m
 
 module _ {t names s : List ℕ} {w : View} {st : State} where
   -- the header goes on from the child that a word spells
-  finds : {h n g k : ℕ} {seen : Seen} {r : Header} → branch t n ≡ true → turnOf s seen ≡ turn.Word w st → Finds t names (partOf s w) n (found.Child g k)
+  pub finds : {h n g k : ℕ} {seen : Seen} {r : Header} → branch t n ≡ true → turnOf s seen ≡ turn.Word w st → Finds t names (partOf s w) n (found.Child g k)
       → Reads t names s g k (seenAt s st) r → Reads t names s h n seen r
   finds m e (here x) o = said m e x o
   finds m e (under x d z) o = unsaid m e x d (finds (holds z) (word-there s w st) z o)
 
-  loses : {h n : ℕ} {seen : Seen} → branch t n ≡ true → turnOf s seen ≡ turn.Word w st → Finds t names (partOf s w) n found.None → Reads t names s h n seen undefined
+  pub loses : {h n : ℕ} {seen : Seen} → branch t n ≡ true → turnOf s seen ≡ turn.Word w st → Finds t names (partOf s w) n found.None → Reads t names s h n seen undefined
   loses m e (unfound x d) = unknown m e x d
   loses {h} m e (under {d = d} x y z) = unsaid m e x y (go (branch t d) refl (λ l. loses l (word-there s w st) z))
     where
@@ -59,11 +59,11 @@ module _ {t names s : List ℕ} {w : View} {st : State} where
 
 module _ {t names s : List ℕ} {h : ℕ} {seen : Seen} (e : turnOf s seen ≡ turn.Stop) where
   -- where the header ends at a branch, its command is that of the leaf that is reached unsaid
-  settles : {n k : ℕ} → branch t n ≡ true → Settles t n (pick.Child k) → Reads t names s h n seen (leafAnswer s (commandNumber (getD t k 0)) h seen)
+  pub settles : {n k : ℕ} → branch t n ≡ true → Settles t n (pick.Child k) → Reads t names s h n seen (leafAnswer s (commandNumber (getD t k 0)) h seen)
   settles m (at-leaf d l) = ended m e d (leaf l)
   settles m (onward d l z) = ended m e d (settles l z)
 
-  ends : {n : ℕ} → branch t n ≡ true → Settles t n pick.None → Reads t names s h n seen undefined
+  pub ends : {n : ℕ} → branch t n ≡ true → Settles t n pick.None → Reads t names s h n seen undefined
   ends m (onward d l z) = ended m e d (ends l z)
   ends m (unsettled d) = nowhere m e d
 

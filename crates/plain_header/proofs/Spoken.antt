@@ -1,0 +1,219 @@
+-- Laws of the words of a header, as the code meets them.
+use Prim.Native.Nat.{ℕ, _+_, _-_, _≤_, _<_}
+use mathlib.Core.Path.{_≡_, refl, sym, ap, _∙_}
+use mathlib.Core.List.{List, [], _∷_}
+use mathlib.Core.Bool.{Bool, true, false, not, cond, _&&_, _||_, false≢true}
+use lib.Dec.{eqb, leb, ltb}
+use lib.ListN.{length, getD, take, drop}
+use borrow.Author.Needs.{needs}
+use borrow.Author.Tests.{leb-false, not-true, not-false}
+use Rattle.error.specs.declared.ErrorCode.{ErrorCode}
+use Rattle.error.specs.declared.ErrorCode.the-variants as refusal
+use Rattle.kind.specs.Class.{isLetter, isCapital, isSmall, inMnemonic}
+use Rattle.kind.proofs.Tests.{by-test, clash, and-left, and-right}
+use Rattle.util.specs.Run.{runEnd, standsAt}
+use Rattle.node.specs.Word.{isBranch, commandNumber}
+use Rattle.node.specs.Tree.{branch}
+use Rattle.branch.specs.Ways.{Finds, Settles}
+use Rattle.branch.specs.declared.Pick.{Pick}
+use Rattle.branch.specs.declared.Pick.the-variants as pick
+use Rattle.branch.specs.declared.Found.{Found}
+use Rattle.branch.specs.declared.Found.the-variants as found
+use Rattle.token.specs.View.{partOf, viewOf}
+use Rattle.token.specs.Token.{viewIn}
+use Rattle.token.specs.declared.View.{View}
+use Rattle.token.specs.declared.Token.{Token}
+use Rattle.token.specs.declared.Token.the-variants.{ProgramMnemonic, HeaderMnemonicSeparator}
+use Rattle.item.specs.Follow.{token, refused}
+use Rattle.item.specs.Word.{starEnd, mnemonic}
+use Rattle.item.specs.declared.Read.{Read}
+use Rattle.item.specs.declared.Read.the-variants as read
+use Rattle.separator.specs.Separator.{followsColon, colonTo}
+use Rattle.separator.specs.declared.Pass.the-variants as pass
+use Rattle.tokenizer.specs.Step.{stateOf, taken, refusal, readAs}
+use Rattle.ahead.specs.Seen.{tokenAhead, seenWith, seenOf, seenAt}
+use Rattle.ahead.specs.declared.Ahead.{Ahead}
+use Rattle.ahead.specs.declared.Ahead.the-variants as ahead
+use Rattle.ahead.specs.declared.Seen.{Seen}
+use Rattle.ahead.proofs.Looks.{taken-is′, refusal-is′, read-token′, read-refused′, passed-to′, letter-seen′, star-seen′, colon-seen′}
+use Rattle.header.specs.Header.{undefined, leafAnswer, turnOf, behindColon, keeping, isCommon, Reads, leaf, Begins, from-root, common, from-branch}
+use Rattle.header.specs.Header as headers
+use Rattle.header.specs.declared.Turn.{Turn}
+use Rattle.header.specs.declared.Turn.the-variants as turn
+use Rattle.header.specs.declared.Header.{Header}
+use Rattle.header.specs.declared.Header.the-variants as header
+use Rattle.header.proofs.Descents.{finds, loses, settles, ends}
+use Rattle.plain_header.specs.Parts.{startOf, behindByte, beginsWord, isStart, goesOn, endsAt, aheadAt, Leads, to-leaf, to-refusal, no-way, Starred, Goes, goes-to-leaf, goes-to-refusal, goes-nowhere, Settled, settled-leaf, settled-none, not-settled}
+use Rattle.plain_header.specs.declared.Way.{Way}
+use Rattle.plain_header.specs.declared.Way.the-variants as way
+use Rattle.plain_header.proofs.Places.{inside, there}
+use Rattle.plain_header.proofs.Endings.{ends-here}
+
+-- where a header ends at a branch
+
+module _ (t s : List ℕ) (h n p : ℕ) (c : Bool) (ec : c ≡ endsAt s p) where
+  pub not-ended′ : Settled t s h n p way.Other
+  not-ended′ = not-settled
+
+  module _ (q : not c ≡ false) (x : Pick) (z : Settles t n x) where
+    pub none-unsaid′ : x ≡ pick.None → Settled t s h n p (way.Refused refusal.UndefinedHeader)
+    none-unsaid′ e = settled-none (ends-here s p (sym ec ∙ not-false c q)) (rw e at z)
+
+    pub leaf-unsaid′ : (k : ℕ) → x ≡ pick.Child k → (m : ℕ) → m ≡ commandNumber (getD t k 0) → Settled t s h n p (way.Leaf m h p false)
+    leaf-unsaid′ k e m em = rw em (settled-leaf (ends-here s p (sym ec ∙ not-false c q)) (rw e at z))
+
+pub ruleset unsaids = (needs, not-ended′, none-unsaid′, leaf-unsaid′)
+
+-- where words begin
+
+module _ (t s : List ℕ) (n at : ℕ) (c : Bool) (e : c ≡ isBranch (getD t n 0)) where
+  pub no-start′ : not c ≡ true → false ≡ isStart t s n at
+  unfolding isStart
+  no-start′ q = rw (← e, not-true c q)
+
+  pub start′ : not c ≡ false → (r : Bool) → r ≡ beginsWord s at → r ≡ isStart t s n at
+  unfolding isStart
+  start′ q r er = rw (← e, not-false c q) er
+
+pub ruleset start-laws = (needs, no-start′, start′)
+
+-- a word that is ahead
+
+abbrev pub tokenIn : Read → Token
+tokenIn (read.Token t next) = t
+tokenIn (read.Refused e) = HeaderMnemonicSeparator
+
+abbrev pub isToken : Read → Bool
+isToken (read.Token t next) = true
+isToken (read.Refused e) = false
+
+-- what is read as a mnemonic is one
+pub mnemonic-read : (s : List ℕ) (p : ℕ) (t : Token) (next : ℕ) → mnemonic s p ≡ read.Token t next → ProgramMnemonic (viewIn t) ≡ t
+unfolding mnemonic
+mnemonic-read s p t next e = go (leb (runEnd inMnemonic s (starEnd s p) - p) 12) e
+  where
+    go : (b : Bool) → cond b (token (ProgramMnemonic (viewOf p (runEnd inMnemonic s (starEnd s p)))) (runEnd inMnemonic s (starEnd s p))) (refused refusal.ProgramMnemonicTooLong) ≡ read.Token t next
+        → ProgramMnemonic (viewIn t) ≡ t
+    go true f = rw (← ap tokenIn f)
+    go false f = absurd (false≢true (ap isToken f))
+
+-- a letter, by which a word begins
+pub letter-there : (s : List ℕ) (p : ℕ) → beginsWord s p ≡ true → (p < length s) × (isLetter (getD s p 0) ≡ true)
+unfolding beginsWord
+letter-there s p h = go (leb (length s) p) refl h
+  where
+    go : (b : Bool) → leb (length s) p ≡ b → cond b false (isLetter (getD s p 0)) ≡ true → (p < length s) × (isLetter (getD s p 0) ≡ true)
+    go true e f = absurd (false≢true f)
+    go false e f = (leb-false (length s) p e, f)
+
+module _ (s : List ℕ) (p : ℕ) (w : beginsWord s p ≡ true) (rd : Read) (er : rd ≡ mnemonic s p) where
+  pub refused-ahead : (e : ErrorCode) → rd ≡ read.Refused e → seenWith (ahead.Refused e) (stateOf (length s) true false) ≡ aheadAt s p false
+  refused-ahead e q =
+      let x : Seen = seenWith (ahead.Refused e) (stateOf (length s) true false) in
+      letter-seen′ s (stateOf p true false) x (letter-there s p w .0) (isLetter (getD s p 0)) refl (letter-there s p w .1) refl rd er
+      (read-refused′ s (stateOf p true false) x rd false e q (refusal-is′ s (stateOf p true false) e))
+
+  pub word-ahead : (k : Token) (next : ℕ) → rd ≡ read.Token k next → seenWith (ahead.Word (viewIn k)) (stateOf next true false) ≡ aheadAt s p false
+  word-ahead k next q =
+      let x : Seen = seenWith (ahead.Word (viewIn k)) (stateOf next true false) in
+      letter-seen′ s (stateOf p true false) x (letter-there s p w .0) (isLetter (getD s p 0)) refl (letter-there s p w .1) refl rd er
+      (read-token′ s (stateOf p true false) x rd k next q false
+      (taken-is′ k next true false (ahead.Word (viewIn k)) (ap tokenAhead (mnemonic-read s p k next (sym er ∙ q)))))
+
+  pub turn-refused : (e : ErrorCode) → rd ≡ read.Refused e → turnOf s (aheadAt s p false) ≡ turn.Refused e
+  unfolding turnOf
+  turn-refused e q = sym (ap (turnOf s) (refused-ahead e q))
+
+  turn-word : (k : Token) (next : ℕ) → rd ≡ read.Token k next → turnOf s (aheadAt s p false) ≡ turn.Word (viewIn k) (stateOf next true false)
+  unfolding turnOf
+  turn-word k next q = sym (ap (turnOf s) (word-ahead k next q))
+
+-- behind a colon a word is met as at a branch itself
+behind-colon : (s : List ℕ) (p : ℕ) → beginsWord s p ≡ true → behindColon (aheadAt s p false) ≡ turnOf s (aheadAt s p false)
+unfolding behindColon turnOf
+behind-colon s p w = go (mnemonic s p) refl
+  where
+    go : (rd : Read) → rd ≡ mnemonic s p → behindColon (aheadAt s p false) ≡ turnOf s (aheadAt s p false)
+    go (read.Token k next) er = sym (ap behindColon (word-ahead s p w (read.Token k next) er k next refl)) ∙ ap (turnOf s) (word-ahead s p w (read.Token k next) er k next refl)
+    go (read.Refused e) er = sym (ap behindColon (refused-ahead s p w (read.Refused e) er e refl)) ∙ ap (turnOf s) (refused-ahead s p w (read.Refused e) er e refl)
+
+or-true : (a : Bool) {b : Bool} → b ≡ true → (a || b) ≡ true
+or-true true e = refl
+or-true false e = e
+
+pub colon-ahead : (s : List ℕ) (p : ℕ) → p < length s → getD s p 0 ≡ 58 → beginsWord s (p + 1) ≡ true → seenWith ahead.Colon (stateOf (p + 1) true false) ≡ aheadAt s p false
+unfolding colonTo followsColon
+colon-ahead s p l e w =
+    let x : Seen = seenWith ahead.Colon (stateOf (p + 1) true false) in
+    colon-seen′ s (stateOf p true false) x l (pass.To (p + 1)) e (rw (or-true (leb (length s) (p + 1)) (letter-there s (p + 1) w .1)))
+    (passed-to′ s (stateOf p true false) x (pass.To (p + 1)) HeaderMnemonicSeparator true (p + 1) refl (taken-is′ HeaderMnemonicSeparator (p + 1) true false ahead.Colon refl))
+
+colon-turn : (s : List ℕ) (p : ℕ) → goesOn s p ≡ true → turnOf s (aheadAt s p false) ≡ turnOf s (aheadAt s (p + 1) false)
+unfolding goesOn turnOf
+colon-turn s p h =
+    let stands : standsAt 58 s p ≡ true = and-left (standsAt 58 s p) (beginsWord s (p + 1)) h in
+    let w : beginsWord s (p + 1) ≡ true = and-right (standsAt 58 s p) (beginsWord s (p + 1)) h in
+    sym (ap (turnOf s) (colon-ahead s p (inside s p 58 stands) (there s p 58 stands) w)) ∙ behind-colon s (p + 1) w
+
+-- What holds at the branch n, before a word at the place p: what is answered there is answered from the start.
+pub record On (t names s : List ℕ) (start first n p : ℕ) : Type 0 where
+  pub held : branch t n ≡ true
+  pub word : beginsWord s p ≡ true
+  pub first-word : beginsWord s first ≡ true
+  pub back : (r : Header) → ((h : ℕ) (x : Seen) → turnOf s x ≡ turnOf s (aheadAt s p false) → Reads t names s h n x r)
+      → Reads t names s start start (aheadAt s first false) r
+
+module _ (t names s : List ℕ) (start first : ℕ) where
+  pub nowhere′ : Goes t names s start first way.Other
+  nowhere′ = goes-nowhere
+
+  pub on-first′ : (c : Bool) → c ≡ isStart t s start first → not c ≡ false → On t names s start first start first
+  unfolding isStart
+  on-first′ c ec q =
+      let both : isStart t s start first ≡ true = sym ec ∙ not-false c q in
+      let w : beginsWord s first ≡ true = and-right (branch t start) (beginsWord s first) both in
+      record {
+        held = and-left (branch t start) (beginsWord s first) both;
+        word = w;
+        first-word = w;
+        back = λ r k. k start (aheadAt s first false) refl;
+      }
+
+  module _ (n p : ℕ) (on : On t names s start first n p) (rd : Read) (er : rd ≡ mnemonic s p) where
+    pub too-long′ : (e : ErrorCode) → rd ≡ read.Refused e → Goes t names s start first (way.Refused e)
+    too-long′ e q = goes-to-refusal (on .first-word) (on .back _ (λ h x ex. headers.refused (on .held) (ex ∙ turn-refused s p (on .word) rd er e q)))
+
+    module _ (k : Token) (next : ℕ) (ek : rd ≡ read.Token k next) (v : View) (ev : v ≡ viewIn k) (w : List ℕ) (ew : w ≡ partOf s v) (f : Found) (z : Finds t names w n f) where
+      pub unknown′ : f ≡ found.None → Goes t names s start first (way.Refused refusal.UndefinedHeader)
+      unknown′ e = goes-to-refusal (on .first-word) (on .back _ (λ h x ex. loses (on .held) (ex ∙ turn-word s p (on .word) rd er k next ek) (rw (e, ew, ev) at z)))
+
+      module _ (g m : ℕ) (ef : f ≡ found.Child g m) (c : Bool) (ec : c ≡ isBranch (getD t m 0)) where
+        onward : (r : Header) → Reads t names s g m (aheadAt s next false) r → Reads t names s start start (aheadAt s first false) r
+        onward r o = on .back r (λ h x ex. finds (on .held) (ex ∙ turn-word s p (on .word) rd er k next ek) (rw (ef, ew, ev) at z) o)
+
+        pub leaf-found′ : not c ≡ true → (d : ℕ) → d ≡ commandNumber (getD t m 0) → Goes t names s start first (way.Leaf d g next false)
+        leaf-found′ q d ed = goes-to-leaf (on .first-word) (onward (leafAnswer s d g (aheadAt s next false)) (rw ed (leaf (sym ec ∙ not-true c q))))
+
+        settled : (x : Way) → Settled t s g m next x → branch t m ≡ true → Goes t names s start first x
+        settled _ (settled-leaf e y) b = goes-to-leaf (on .first-word) (onward _ (settles e b y))
+        settled _ (settled-none e y) b = goes-to-refusal (on .first-word) (onward _ (ends e b y))
+        settled _ not-settled b = goes-nowhere
+
+        pub settled′ : not c ≡ false → (x : Way) → Settled t s g m next x → Goes t names s start first x
+        settled′ q x y = settled x y (sym ec ∙ not-false c q)
+
+        pub on-again′ : not c ≡ false → (b : Bool) → b ≡ goesOn s next → not b ≡ false → (p2 : ℕ) → p2 ≡ behindByte 58 s next → On t names s start first m p2
+        unfolding goesOn behindByte
+        on-again′ q b eb qb p2 e2 =
+            let goes : goesOn s next ≡ true = sym eb ∙ not-false b qb in
+            let stands : standsAt 58 s next ≡ true = and-left (standsAt 58 s next) (beginsWord s (next + 1)) goes in
+            let there : p2 ≡ next + 1 = e2 ∙ rw stands in
+            rw there
+            (record {
+              held = sym ec ∙ not-false c q;
+              word = and-right (standsAt 58 s next) (beginsWord s (next + 1)) goes;
+              first-word = on .first-word;
+              back = λ r k. onward r (k g (aheadAt s next false) (colon-turn s next goes));
+            })
+
+pub ruleset word-laws = (needs, nowhere′, on-first′, too-long′, unknown′, leaf-found′, settled′, on-again′)

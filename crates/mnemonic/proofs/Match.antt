@@ -1,15 +1,16 @@
 -- Laws of `matches`, one for each way out of the match.
-use Prim.Native.Nat.{ℕ, _-_}
-use mathlib.Core.Path.{_≡_, refl, sym, _∙_}
+use Prim.Native.Nat.{ℕ, _+_, _-_, _%_}
+use mathlib.Core.Path.{_≡_, refl, sym, ap, _∙_}
 use mathlib.Core.List.{List, [], _∷_}
-use mathlib.Core.Bool.{Bool, true, false, not, _&&_, and-true, and-false, or-false, false≢true}
+use mathlib.Core.Bool.{Bool, true, false, cond, not, _&&_, and-true, and-false, or-false, false≢true}
 use native.Mathlib.Omega.{arith}
 use lib.ListN.{length, getD, take, drop}
 use lib.Seq.{take-length}
 use lib.Dec.{eqb}
 use borrow.Author.Needs.{needs}
-use borrow.Author.Tests.{not-true, not-false}
-use Rattle.mnemonic.specs.Mnemonic.{pairs, eitherCase, compares, numericSuffixStart, sameNumericSuffix, matches}
+use borrow.Author.Tests.{not-true, not-false, eqb-false, ne-eqb}
+use Rattle.kind.specs.Class.{isCapital}
+use Rattle.mnemonic.specs.Mnemonic.{pairs, folded, eitherCase, compares, numericSuffixStart, sameNumericSuffix, matches, beginsOtherwise}
 use Rattle.mnemonic.proofs.Pairs.{differ}
 use Rattle.mnemonic.proofs.Split.{stem-some, starts-within′}
 use Rattle.mnemonic.proofs.Compare.{part-long′, to-end, begin-apart}
@@ -47,25 +48,56 @@ module _ (m i s j : List ℕ) (o : Bool) (e : o ≡ sameNumericSuffix i j) where
   pub granted′ : not o ≡ false → (c : Bool) → c ≡ compares m s → c ≡ (compares m s && sameNumericSuffix i j)
   granted′ k c q = q ∙ sym (rw (← e, not-false o k) (and-true (compares m s)))
 
--- texts that begin with two characters do not match, nor do their stems
-begin-unlike : (m s : List ℕ) → (length m ≡ 0 → ⊥) → (length s ≡ 0 → ⊥) → eitherCase (getD m 0 0) (getD s 0 0) ≡ false → matches m s ≡ false
-unfolding matches
-begin-unlike [] s h k e = absurd (h refl)
-begin-unlike (c ∷ m) [] h k e = absurd (k refl)
-begin-unlike (c ∷ m) (d ∷ s) h k e =
+-- a letter has the same remainder by 32 in either case
+same-remainder : (b : ℕ) → folded b % 32 ≡ b % 32
+unfolding folded
+same-remainder b = go (isCapital b)
+  where
+    go : (r : Bool) → cond r (b + 32) b % 32 ≡ b % 32
+    go true = omega arith
+    go false = refl
+
+apart : (c d : ℕ) → not (eqb (c % 32) (d % 32)) ≡ true → eitherCase c d ≡ false
+unfolding eitherCase
+apart c d h =
+    ne-eqb (folded c) (folded d)
+    (λ e. eqb-false (c % 32) (d % 32) (not-true _ h) (sym (same-remainder c) ∙ ap (λ (b : ℕ). b % 32) e ∙ same-remainder d))
+
+-- texts that begin otherwise do not match, nor do their stems
+pub begin-unlike : (m s : List ℕ) → beginsOtherwise m s ≡ true → matches m s ≡ false
+unfolding beginsOtherwise matches
+begin-unlike [] s h = absurd (false≢true h)
+begin-unlike (c ∷ m) [] h = absurd (false≢true h)
+begin-unlike (c ∷ m) (d ∷ s) h =
     let x = stem-some c m in
     let y = stem-some d s in
+    let e = apart c d h in
     rw (begin-apart c d m s e, x .1, y .1, begin-apart c d (take (x .0) m) (take (y .0) s) e)
 
 module _ (m s : List ℕ) where
-  pub not-told′ : false ≡ true → matches m s ≡ false
-  not-told′ h = absurd (false≢true h)
+  pub no-mnemonic′ : length m ≡ 0 → false ≡ beginsOtherwise m s
+  unfolding beginsOtherwise
+  no-mnemonic′ h = rw (empty m h)
 
-  pub unlike′ : (r : Bool) → (length m ≡ 0 → ⊥) → (length s ≡ 0 → ⊥) → r ≡ eitherCase (getD m 0 0) (getD s 0 0) → not r ≡ true → matches m s ≡ false
-  unlike′ r h k e q = begin-unlike m s h k (sym e ∙ not-true r q)
+  pub no-word′ : length s ≡ 0 → false ≡ beginsOtherwise m s
+  unfolding beginsOtherwise
+  no-word′ h = rw (empty s h) (go m)
+    where
+      go : (m : List ℕ) → false ≡ beginsOtherwise m []
+      go [] = refl
+      go (c ∷ m) = refl
 
-  pub told′ : (r : Bool) → (r ≡ true → matches m s ≡ false) → r ≡ true → false ≡ matches m s
-  told′ r h q = sym (h q)
+  pub remainders′ : (length m ≡ 0 → ⊥) → (length s ≡ 0 → ⊥) → not (eqb (getD m 0 0 % 32) (getD s 0 0 % 32)) ≡ beginsOtherwise m s
+  unfolding beginsOtherwise
+  remainders′ = go m s
+    where
+      go : (m s : List ℕ) → (length m ≡ 0 → ⊥) → (length s ≡ 0 → ⊥) → not (eqb (getD m 0 0 % 32) (getD s 0 0 % 32)) ≡ beginsOtherwise m s
+      go [] s h k = absurd (h refl)
+      go (c ∷ m) [] h k = absurd (k refl)
+      go (c ∷ m) (d ∷ s) h k = refl
+
+  pub unlike′ : (r : Bool) → r ≡ beginsOtherwise m s → r ≡ true → false ≡ matches m s
+  unlike′ r e q = sym (begin-unlike m s (sym e ∙ q))
 
 module _ (m s : List ℕ) (a : Bool) (first : a ≡ compares m s) where
   pub at-once′ : a ≡ true → true ≡ matches m s
@@ -93,6 +125,6 @@ pub ruleset suffix-laws = (needs, none-none′, none-some′, some-none′, some
 
 pub ruleset parts-laws = (needs, refused′, granted′)
 
-pub ruleset begin-laws = (needs, not-told′, unlike′)
+pub ruleset begin-laws = (needs, no-mnemonic′, no-word′, remainders′)
 
-pub ruleset laws = (needs, told′, part-long′, starts-within′, at-once′, neither′, parts′, word-parts′)
+pub ruleset laws = (needs, unlike′, part-long′, starts-within′, at-once′, neither′, parts′, word-parts′)

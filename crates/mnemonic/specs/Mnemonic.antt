@@ -1,5 +1,5 @@
 -- Mnemonics compared as the original compares them, on all pairs of texts. What this means for a table name is said in Spelling.
-use Prim.Native.Nat.{ℕ, suc, _+_}
+use Prim.Native.Nat.{ℕ, suc, _+_, _%_}
 use mathlib.Core.List.{List, [], _∷_}
 use mathlib.Core.Bool.{Bool, true, false, cond, not, _&&_, _||_}
 use lib.ListN.{length, take, drop}
@@ -76,3 +76,10 @@ matchesParts m i s j = compares m s && sameNumericSuffix i j
 -- the texts compare as they stand, or their stems do and they have the same numeric suffix
 unfoldable pub matches : List ℕ → List ℕ → Bool
 matches m s = compares m s || matchesParts (stem m) (numericSuffix m) (stem s) (numericSuffix s)
+
+-- Two texts, neither of them empty, whose first characters have different remainders by 32. A letter has the same one in either case, so such
+-- texts do not match.
+unfoldable pub beginsOtherwise : List ℕ → List ℕ → Bool
+beginsOtherwise [] s = false
+beginsOtherwise (c ∷ m) [] = false
+beginsOtherwise (c ∷ m) (d ∷ s) = not (eqb (c % 32) (d % 32))

@@ -1,9 +1,8 @@
 // Mnemonics: which spoken word is which name. tokenizer/util.rs of the original.
 ghost use mathlib.Core.Path.{_≡_};
-ghost use mathlib.Core.Bool.{true, false};
 ghost use Rattle.kind.specs.Text.{ascii};
 ghost use Rattle.util.specs.Run.{every};
-ghost use Rattle.mnemonic.specs.Mnemonic.{eitherCase, alike, same, notSmall, mayLeaveOut, compares, numericSuffixStart, sameNumericSuffix, matchesParts, matches};
+ghost use Rattle.mnemonic.specs.Mnemonic.{eitherCase, alike, same, notSmall, mayLeaveOut, compares, numericSuffixStart, sameNumericSuffix, matchesParts, beginsOtherwise, matches};
 
 // The same character, whichever case a letter is in.
 fn is_either_case(c: u8, d: u8) -> bool
@@ -173,9 +172,10 @@ fn match_parts(stem: &[u8], suffix: &[u8], word: &[u8], number: &[u8]) -> bool
     mnemonic_compare(stem, word)
 }
 
-// Whether the texts begin with two characters that differ in more than case: then the word does not spell the mnemonic.
-fn begins_otherwise(mnemonic: &[u8], s: &[u8]) -> bool
-    ensures { λ r. ⌜ (r ≡ true → matches (now (mnemonic .entry)) (now (s .entry)) ≡ false) ⌝ }
+// Whether the first characters of the texts have different remainders by 32. A letter has the same one in either case, so that then the word
+// does not spell the mnemonic.
+pub fn begins_otherwise(mnemonic: &[u8], s: &[u8]) -> bool
+    ensures { λ r. ⌜ r ≡ beginsOtherwise (now (mnemonic .entry)) (now (s .entry)) ⌝ }
 {
     if mnemonic.len() == 0 {
         return false;
@@ -183,7 +183,7 @@ fn begins_otherwise(mnemonic: &[u8], s: &[u8]) -> bool
     if s.len() == 0 {
         return false;
     }
-    !is_either_case(mnemonic[0], s[0])
+    mnemonic[0] % 32 != s[0] % 32
 }
 
 // Whether the word spells the mnemonic, its numeric suffix with it, as `TRIG1` spells `TRIGger`.

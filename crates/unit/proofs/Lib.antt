@@ -2,6 +2,8 @@
 pub mod Entries
 pub mod Meets
 pub mod Lists
+pub mod Forms
+pub mod Counts
 pub mod Units
 pub mod Some
 pub mod Once

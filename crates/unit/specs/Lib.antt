@@ -1,4 +1,5 @@
 pub mod Entry
 pub mod Items
 pub mod Unit
+pub mod Parts
 pub mod Claims

@@ -1,10 +1,13 @@
 // Message units: a header and its items of data. `run_tokens` and `Parameters` of tree/mod.rs of the original.
 ghost use mathlib.Core.Path.{_≡_};
-ghost use Rattle.enclosed.specs.Expression.{expressionData};
-ghost use Rattle.tokenizer.specs.Step.{inCommon, refusal, readAs, commaBefore};
-ghost use Rattle.unit.specs.Entry.{tokenEntry, entryOf, metOf, metAt};
+ghost use mathlib.Core.Bool.{true, false};
+ghost use Rattle.kind.specs.Class.{isWhiteSpace};
+ghost use Rattle.util.specs.Run.{runEnd};
+ghost use Rattle.tokenizer.specs.Step.{stateOf};
+ghost use Rattle.unit.specs.Entry.{tokenEntry, entryOf, metAt};
 ghost use Rattle.unit.specs.Items.{Items, Joined};
 ghost use Rattle.unit.specs.Unit.{Behind, Reads};
+ghost use Rattle.unit.specs.Parts.{beginsNumber, Reading, Ending};
 use ahead::Seen;
 use ahead::Stop;
 use error::ErrorCode;
@@ -45,6 +48,12 @@ pub enum Unit {
     Refused(ErrorCode),
 }
 
+// Where an item of data ends, with the white space behind it passed; or that no item is read there.
+enum Ends {
+    At(usize),
+    Other,
+}
+
 // Reads one unit from a branch, where its first token is seen.
 pub fn read(nodes: &[u64], names: &[u8], s: &[u8], start: usize, seen: Seen) -> Unit
     ensures { λ r. ⌜ Reads (now (nodes .entry)) (now (names .entry)) (now (s .entry)) start seen r ⌝ }
@@ -83,8 +92,130 @@ fn behind(s: &[u8], stop: Stop, state: State) -> Data
     }
 }
 
-// No items, or items with single commas between them.
+// No items, or items with single commas between them. They are read here form by form; where one is not read so, or the state is in a
+// header, all are read again token by token.
 fn items(s: &[u8], state: State) -> Data
+    ensures { λ r. ⌜ Items (now (s .entry)) state r ⌝ }
+{
+    if state.in_header {
+        return token_items(s, state);
+    }
+    let in_common = state.in_common;
+    let first = state.place;
+    if s.len() <= first {
+        return Data::Items {
+            count: 0,
+            state: State {
+                place: first,
+                in_header: false,
+                in_common,
+            },
+        };
+    }
+    if s[first] == b';' {
+        return Data::Items {
+            count: 0,
+            state: next_unit(s, first + 1),
+        };
+    }
+    let mut count = 0;
+    let mut place = first;
+    loop {
+        match item_end(s, place) {
+            Ends::Other => return token_items(s, state),
+            Ends::At(end) => {
+                count += 1;
+                if s.len() <= end {
+                    return Data::Items {
+                        count,
+                        state: State {
+                            place: end,
+                            in_header: false,
+                            in_common,
+                        },
+                    };
+                }
+                if s[end] == b';' {
+                    return Data::Items {
+                        count,
+                        state: next_unit(s, end + 1),
+                    };
+                }
+                if s[end] != b',' {
+                    return token_items(s, state);
+                }
+                match separator::comma(s, end + 1, false) {
+                    Pass::Refused(_) => return token_items(s, state),
+                    Pass::To(next) => place = next,
+                }
+            }
+        }
+    }
+}
+
+// The state behind a `;` that ends before a place.
+fn next_unit(s: &[u8], at: usize) -> State
+    ensures { λ r. ⌜ r ≡ stateOf (runEnd isWhiteSpace (now (s .entry)) at) true false ⌝ }
+{
+    State {
+        place: util::skip_ws(s, at),
+        in_header: true,
+        in_common: false,
+    }
+}
+
+// Where the item of data at a place ends, outside a header.
+fn item_end(s: &[u8], at: usize) -> Ends
+    ensures { λ r. ⌜ Ending (now (s .entry)) at r ⌝ }
+{
+    match read_item(s, at) {
+        Read::Token { token, next } => {
+            if token.is_data() {
+                return Ends::At(next);
+            }
+            return Ends::Other;
+        }
+        Read::Refused(_) => return Ends::Other,
+    }
+}
+
+// The item of data at a place, by the byte that it begins with.
+fn read_item(s: &[u8], at: usize) -> Read
+    ensures { λ r. ⌜ Reading (now (s .entry)) at r ⌝ }
+{
+    if s.len() <= at {
+        return Read::Refused(ErrorCode::SyntaxError);
+    }
+    let b = s[at];
+    if kind::is_letter(b) {
+        return item::read_character_data(s, at);
+    }
+    if begins_number(b) {
+        return decimal::read_numeric_data(s, at);
+    }
+    match b {
+        b'(' => enclosed::read_expression_data(s, at + 1),
+        b'"' | b'\'' => enclosed::read_string_data(s, at + 1, b),
+        b'#' => hash::read_hash_data(s, at + 1),
+        _ => Read::Refused(ErrorCode::SyntaxError),
+    }
+}
+
+// Whether a number begins with a byte.
+fn begins_number(b: u8) -> bool
+    ensures { λ r. ⌜ r ≡ beginsNumber b ⌝ }
+{
+    if kind::is_digit(b) {
+        return true;
+    }
+    if kind::is_sign(b) {
+        return true;
+    }
+    b == b'.'
+}
+
+// No items, or items with single commas between them, token by token.
+fn token_items(s: &[u8], state: State) -> Data
     ensures { λ r. ⌜ Items (now (s .entry)) state r ⌝ }
 {
     let met = meet(s, state);
@@ -130,35 +261,8 @@ fn joined(s: &[u8], first: State) -> Data
     }
 }
 
-// What the next token is among the items, and the state behind it. Separators and expressions are read here at once, and the rest by
-// the token step.
+// What the next token is among the items, and the state behind it.
 fn meet(s: &[u8], state: State) -> Met
-    ensures { λ r. ⌜ r ≡ metAt (now (s .entry)) state ⌝ }
-{
-    let at = state.place;
-    if s.len() <= at {
-        return Met {
-            entry: Entry::End,
-            state,
-        };
-    }
-    match s[at] {
-        b',' => comma(s, at + 1, state),
-        b';' => Met {
-            entry: Entry::End,
-            state: State {
-                place: util::skip_ws(s, at + 1),
-                in_header: true,
-                in_common: false,
-            },
-        },
-        b'(' => expression(s, at + 1, state),
-        _ => step(s, state),
-    }
-}
-
-// The token step as the items meet it.
-fn step(s: &[u8], state: State) -> Met
     ensures { λ r. ⌜ r ≡ metAt (now (s .entry)) state ⌝ }
 {
     let step = tokenizer::next(s, state);
@@ -167,58 +271,6 @@ fn step(s: &[u8], state: State) -> Met
     Met {
         entry: answer_entry(answer),
         state,
-    }
-}
-
-// A comma before a place.
-fn comma(s: &[u8], at: usize, state: State) -> Met
-    ensures { λ r. ⌜ r ≡ metOf (commaBefore (now (s .entry)) state at) ⌝ }
-{
-    match separator::comma(s, at, state.in_header) {
-        Pass::To(next) => {
-            return Met {
-                entry: Entry::Comma,
-                state: State {
-                    place: next,
-                    in_header: state.in_header,
-                    in_common: state.in_common,
-                },
-            }
-        }
-        Pass::Refused(e) => return refused(s, state, e),
-    }
-}
-
-// A bracket before a place begins an expression.
-fn expression(s: &[u8], at: usize, state: State) -> Met
-    ensures { λ r. ⌜ r ≡ metOf (readAs (now (s .entry)) state (inCommon state) (expressionData (now (s .entry)) at)) ⌝ }
-{
-    match enclosed::read_expression_data(s, at) {
-        Read::Token { token, next } => {
-            return Met {
-                entry: token_entry(token),
-                state: State {
-                    place: next,
-                    in_header: state.in_header,
-                    in_common: state.in_common,
-                },
-            }
-        }
-        Read::Refused(e) => return refused(s, state, e),
-    }
-}
-
-// A refusal ends the text.
-fn refused(s: &[u8], state: State, e: ErrorCode) -> Met
-    ensures { λ r. ⌜ r ≡ metOf (refusal (now (s .entry)) state e) ⌝ }
-{
-    Met {
-        entry: Entry::Refused(e),
-        state: State {
-            place: s.len(),
-            in_header: state.in_header,
-            in_common: state.in_common,
-        },
     }
 }
 

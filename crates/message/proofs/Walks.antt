@@ -13,7 +13,6 @@ use Rattle.node.specs.Tree.{branch}
 use Rattle.tokenizer.specs.Step.{ofMessage}
 use Rattle.tokenizer.specs.declared.State.{State}
 use Rattle.ahead.specs.Seen.{seenAt}
-use Rattle.ahead.specs.declared.Seen.{Seen}
 use Rattle.unit.specs.Unit.{Reads}
 use Rattle.unit.specs.declared.Unit.{Unit}
 use Rattle.unit.specs.declared.Unit.the-variants as unit
@@ -89,16 +88,16 @@ module _ (t names s : List ℕ) (start : ℕ) (before : List ℕ) (count kept : 
             rw (so .words, ← so .number) (sym (fitting before (so .units) e (rw (← so .number) at (so .room))));
       }
 
-  module _ (seen : Seen) (p : seen ≡ seenAt s st) (q : Bool) (o : q ≡ isEnd (seen .ahead)) where
+  module _ (q : Bool) (o : q ≡ isEnd ((seenAt s st) .ahead)) where
     ended? : isEnd ((seenAt s st) .ahead) ≡ q
-    ended? = ap (λ (x : Seen). isEnd (x .ahead)) (sym p) ∙ sym o
+    ended? = sym o
 
     pub done′ : q ≡ true → Walks M before (walked.Units count) slots
     done′ h = ends complete (none (ended? ∙ h))
 
-    module _ (h : q ≡ false) (r : Unit) (y : Reads t names s kept seen r) where
+    module _ (h : q ≡ false) (r : Unit) (y : Reads t names s kept (seenAt s st) r) where
       read : (x : Unit) → r ≡ x → Reads t names s kept (seenAt s st) x
-      read x f = subst (λ (z : Seen). Reads t names s kept z x) p (subst (λ (z : Unit). Reads t names s kept seen z) f y)
+      read x f = subst (λ (z : Unit). Reads t names s kept (seenAt s st) z) f y
 
       pub refused′ : (e : ErrorCode) → r ≡ unit.Refused e → Walks M before (walked.Refused count e) slots
       refused′ e f = ends (refused e) (stopped (ended? ∙ h) (read _ f))

@@ -4,10 +4,12 @@ ghost use mathlib.Core.Path.{_≡_};
 ghost use lib.ListN.{length, set};
 ghost use Rattle.message.specs.Message.{isText, isEnd, Units, Message, CheckedMessage, Walks};
 ghost use Rattle.tokenizer.specs.Step.{ofMessage};
+ghost use Rattle.ahead.specs.Seen.{seenAt};
 use ahead::Ahead;
 use ahead::Stop;
 use error::ErrorCode;
 use table::Checked;
+use tokenizer::State;
 use unit::Unit;
 
 // How many units were written; and what refused the next one, where a message is not read to its end.
@@ -60,12 +62,10 @@ fn walk_units(nodes: &[u64], names: &[u8], start: usize, s: &[u8], slots: &mut [
     let mut kept = start;
     let mut state = tokenizer::new();
     loop {
-        let seen = ahead::look(s, state);
-        let ahead = seen.ahead;
-        if is_end(ahead) {
+        if at_end(s, state) {
             return Walked::Units(units);
         }
-        match unit::read(nodes, names, s, kept, seen) {
+        match unit::read(nodes, names, s, kept, state) {
             Unit::Refused(e) => return Walked::Refused { units, error: e },
             Unit::Read {
                 record,
@@ -92,6 +92,36 @@ fn put(slots: &mut [u64], at: usize, word: u64) -> usize
 {
     slots[at] = word;
     at + 1
+}
+
+// Whether the message ends at a state. What begins a header is told at once, and the rest by the token that stands there.
+fn at_end(s: &[u8], state: State) -> bool
+    ensures { λ r. ⌜ r ≡ isEnd ((seenAt (now (s .entry)) state) .ahead) ⌝ }
+{
+    let at = state.place;
+    if s.len() <= at {
+        return true;
+    }
+    if !state.in_header {
+        return sees_end(s, state);
+    }
+    let b = s[at];
+    if kind::is_letter(b) {
+        return false;
+    }
+    match b {
+        b':' => false,
+        b'*' => false,
+        _ => sees_end(s, state),
+    }
+}
+
+fn sees_end(s: &[u8], state: State) -> bool
+    ensures { λ r. ⌜ r ≡ isEnd ((seenAt (now (s .entry)) state) .ahead) ⌝ }
+{
+    let seen = ahead::look(s, state);
+    let ahead = seen.ahead;
+    is_end(ahead)
 }
 
 // Where a unit would begin, the end of the text ends the message.

@@ -18,7 +18,7 @@ use Rattle.ahead.specs.Seen.{seenWith, seenOf, seenAt}
 use Rattle.ahead.specs.declared.Stop.the-variants as stop
 use Rattle.ahead.specs.declared.Ahead.the-variants as ahead
 use Rattle.ahead.specs.declared.Seen.{Seen}
-use Rattle.ahead.proofs.Looks.{taken-is′, passed-to′, end-seen′, question-seen′, space-seen′, semicolon-seen′}
+use Rattle.plain_header.proofs.Looks.{taken-is′, passed-to′, end-seen′, question-seen′, space-seen′, semicolon-seen′}
 use Rattle.header.specs.Header.{queryAnswer, leafAnswer, turnOf}
 use Rattle.header.specs.declared.Turn.the-variants as turn
 use Rattle.header.specs.declared.Header.{Header}

@@ -1,4 +1,5 @@
 -- Laws that belong to no one function.
+pub mod Looks
 pub mod Places
 pub mod Endings
 pub mod Spoken

@@ -35,7 +35,7 @@ use Rattle.ahead.specs.Seen.{tokenAhead, seenWith, seenOf, seenAt}
 use Rattle.ahead.specs.declared.Ahead.{Ahead}
 use Rattle.ahead.specs.declared.Ahead.the-variants as ahead
 use Rattle.ahead.specs.declared.Seen.{Seen}
-use Rattle.ahead.proofs.Looks.{taken-is′, refusal-is′, read-token′, read-refused′, passed-to′, letter-seen′, star-seen′, colon-seen′}
+use Rattle.plain_header.proofs.Looks.{taken-is′, refusal-is′, read-token′, read-refused′, passed-to′, letter-seen′, star-seen′, colon-seen′}
 use Rattle.header.specs.Header.{undefined, leafAnswer, turnOf, behindColon, keeping, isCommon, Reads, leaf, Begins, from-root, common, from-branch}
 use Rattle.header.specs.Header as headers
 use Rattle.header.specs.declared.Turn.{Turn}

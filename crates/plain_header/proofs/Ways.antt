@@ -31,8 +31,8 @@ use Rattle.ahead.specs.Seen.{tokenAhead, seenWith, seenAt}
 use Rattle.ahead.specs.declared.Ahead.{Ahead}
 use Rattle.ahead.specs.declared.Ahead.the-variants as ahead
 use Rattle.ahead.specs.declared.Seen.{Seen}
-use Rattle.ahead.proofs.Looks.{taken-is′, refusal-is′, read-token′, star-seen′}
-use Rattle.ahead.proofs.Looks as looks
+use Rattle.plain_header.proofs.Looks.{taken-is′, refusal-is′, read-token′, star-seen′}
+use Rattle.plain_header.proofs.Looks as looks
 use Rattle.header.specs.Header.{behindQuery, queryAnswer, leafAnswer, turnOf, keeping, isCommon, Reads, leaf, Begins, first-refused, from-root, common, from-branch}
 use Rattle.header.specs.Header as headers
 use Rattle.header.specs.declared.Turn.the-variants as turn

@@ -18,7 +18,6 @@ use Rattle.tokenizer.specs.declared.State.{State}
 use Rattle.ahead.specs.Seen.{seenAt}
 use Rattle.header.specs.Header.{Begins}
 use Rattle.ahead.specs.declared.Stop.{Stop}
-use Rattle.ahead.specs.declared.Seen.{Seen}
 use Rattle.header.specs.declared.Header.{Header}
 use Rattle.header.specs.declared.Header.the-variants as header
 use Rattle.tree.specs.Alone.{aloneWith, closing, Resolves, no-branch, too-long, one-header, ResolvesAlone, fault, sound}
@@ -41,9 +40,9 @@ module _ (t names : List ℕ) (b : ℕ) (s : List ℕ) (r : Bool) (e : r ≡ isB
     pub too-long′ : 65535 < length s → Resolves t names b s (resolved.Refused refusal.MessageTooLong)
     too-long′ h = too-long (sym e ∙ not-false r q) h
 
-    module _ (h : length s ≤ 65535) (f : State) (ef : f ≡ ofMessage) (n : Seen) (en : n ≡ seenAt s f) (x : Header) (g : Begins t names s b n x) where
+    module _ (h : length s ≤ 65535) (f : State) (ef : f ≡ ofMessage) (x : Header) (g : Begins t names s b (seenAt s f) x) where
       whole : Resolves t names b s (closing x)
-      whole = one-header (sym e ∙ not-false r q) h (rw (en, ef) at g)
+      whole = one-header (sym e ∙ not-false r q) h (rw ef at g)
 
       pub refused′ : (c : ErrorCode) → x ≡ header.Refused c → Resolves t names b s (resolved.Refused c)
       refused′ c y = rw y at whole

@@ -37,8 +37,7 @@ pub fn resolve_accepted(nodes: &[u64], names: &[u8], start: usize, s: &[u8]) -> 
     if 65535 < s.len() {
         return Resolved::Refused(ErrorCode::MessageTooLong);
     }
-    let state = tokenizer::new();
-    match header::resolve(nodes, names, s, start, ahead::look(s, state)) {
+    match plain_header::read(nodes, names, s, start, tokenizer::new()) {
         Header::Refused(e) => Resolved::Refused(e),
         Header::Found {
             command,

@@ -4,11 +4,11 @@ ghost use mathlib.Core.Bool.{true, false};
 ghost use Rattle.kind.specs.Class.{isWhiteSpace};
 ghost use Rattle.util.specs.Run.{runEnd};
 ghost use Rattle.tokenizer.specs.Step.{stateOf};
+ghost use Rattle.ahead.specs.Seen.{seenAt};
 ghost use Rattle.unit.specs.Entry.{tokenEntry, entryOf, metAt};
 ghost use Rattle.unit.specs.Items.{Items, Joined};
 ghost use Rattle.unit.specs.Unit.{Behind, Reads};
 ghost use Rattle.unit.specs.Parts.{beginsNumber, Reading, Ending};
-use ahead::Seen;
 use ahead::Stop;
 use error::ErrorCode;
 use header::Header;
@@ -54,11 +54,11 @@ enum Ends {
     Other,
 }
 
-// Reads one unit from a branch, where its first token is seen.
-pub fn read(nodes: &[u64], names: &[u8], s: &[u8], start: usize, seen: Seen) -> Unit
-    ensures { λ r. ⌜ Reads (now (nodes .entry)) (now (names .entry)) (now (s .entry)) start seen r ⌝ }
+// Reads one unit from a branch and a state.
+pub fn read(nodes: &[u64], names: &[u8], s: &[u8], start: usize, state: State) -> Unit
+    ensures { λ r. ⌜ Reads (now (nodes .entry)) (now (names .entry)) (now (s .entry)) start (seenAt (now (s .entry)) state) r ⌝ }
 {
-    match header::resolve(nodes, names, s, start, seen) {
+    match plain_header::read(nodes, names, s, start, state) {
         Header::Refused(e) => Unit::Refused(e),
         Header::Found {
             command,

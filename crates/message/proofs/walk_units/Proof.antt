@@ -18,11 +18,8 @@ new-requires c κs = search walk-laws
 loop-holds : tie.Need-loop-holds Inv-loop μ-loop
 loop-holds c = search walk-laws
 
-look-requires : tie.Need-look-requires Inv-loop μ-loop
-look-requires c κs = search walk-laws
-
-is-end-requires : tie.Need-is-end-requires Inv-loop μ-loop
-is-end-requires c κs = search walk-laws
+at-end-requires : tie.Need-at-end-requires Inv-loop μ-loop
+at-end-requires c κs = search walk-laws
 
 same-length : tie.Need-same-length Inv-loop μ-loop
 same-length c = search walk-laws
@@ -71,8 +68,7 @@ walk-units-spec =
     μ-loop
     new-requires
     loop-holds
-    look-requires
-    is-end-requires
+    at-end-requires
     same-length
     returns
     read-requires

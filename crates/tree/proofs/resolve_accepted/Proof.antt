@@ -14,11 +14,8 @@ returns-2 c = search accepted-laws
 new-requires : tie.Need-new-requires
 new-requires c κs = search accepted-laws
 
-look-requires : tie.Need-look-requires
-look-requires c κs = search accepted-laws
-
-resolve-requires : tie.Need-resolve-requires
-resolve-requires c κs = search accepted-laws
+read-requires : tie.Need-read-requires
+read-requires c κs = search accepted-laws
 
 enum-known-e : tie.Need-enum-known-e
 enum-known-e c = search accepted-laws
@@ -43,8 +40,7 @@ resolve-accepted-spec =
     returns
     returns-2
     new-requires
-    look-requires
-    resolve-requires
+    read-requires
     enum-known-e
     enum-known-command
     alone-requires

@@ -2,8 +2,8 @@ use Rattle.unit.proofs.Units.{unit-laws}
 use Rattle.unit.proofs.read.Statement.{statement}
 use Rattle.unit.proofs.read.Tie as tie
 
-resolve-requires : tie.Need-resolve-requires
-resolve-requires c κs = search unit-laws
+read-requires : tie.Need-read-requires
+read-requires c κs = search unit-laws
 
 enum-known-e : tie.Need-enum-known-e
 enum-known-e c = search unit-laws
@@ -33,7 +33,7 @@ pub read-spec : {M : Type 1} → statement M
 read-spec =
     tie.close
     (tie.spec
-    resolve-requires
+    read-requires
     enum-known-e
     enum-known-command
     behind-requires

@@ -1,9 +1,0 @@
-use Rattle.ahead.proofs.Looks.{parts}
-use Rattle.ahead.proofs.refused.Statement.{statement}
-use Rattle.ahead.proofs.refused.Tie as tie
-
-returns : tie.Need-returns
-returns c = search parts
-
-pub refused-spec : {M : Type 1} → statement M
-refused-spec = tie.close (tie.spec returns)

@@ -119,19 +119,14 @@ module _ (s : List ℕ) (p : ℕ) (common : Bool) where
     is-found : IsFound x c q kept at common (leafAnswer s c kept (aheadAt s p common))
     is-found = rw (ex, ea) (found c kept q (sym eq))
 
-    pub close-text′ : x ≡ halt.Text → header.Found c q kept stop.Text (stateOf at (not q) common) ≡ leafAnswer s c kept (aheadAt s p common)
-    close-text′ e = rw e at is-found
+    pub close-text : x ≡ halt.Text → header.Found c q kept stop.Text (stateOf at (not q) common) ≡ leafAnswer s c kept (aheadAt s p common)
+    close-text e = rw e at is-found
 
-    pub close-separator′ : (n : ℕ) → x ≡ halt.Separator n → header.Found c q kept stop.Separator (stateOf n false common) ≡ leafAnswer s c kept (aheadAt s p common)
-    close-separator′ n e = rw e at is-found
+    pub close-separator : (n : ℕ) → x ≡ halt.Separator n → header.Found c q kept stop.Separator (stateOf n false common) ≡ leafAnswer s c kept (aheadAt s p common)
+    close-separator n e = rw e at is-found
 
-    pub close-unit′ : (n : ℕ) → x ≡ halt.Unit n → header.Found c q kept stop.Unit (stateOf n true false) ≡ leafAnswer s c kept (aheadAt s p common)
-    close-unit′ n e = rw e at is-found
-
-  pub close-other′ : (c kept : ℕ) (y : Seen) → y ≡ aheadAt s p common → (r : Header) → r ≡ leafAnswer s c kept y → r ≡ leafAnswer s c kept (aheadAt s p common)
-  close-other′ c kept y ey r er = rw (← ey) er
-
-pub ruleset closes = (needs, close-text′, close-separator′, close-unit′, close-other′)
+    pub close-unit : (n : ℕ) → x ≡ halt.Unit n → header.Found c q kept stop.Unit (stateOf n true false) ≡ leafAnswer s c kept (aheadAt s p common)
+    close-unit n e = rw e at is-found
 
 -- where a header ends at a branch
 

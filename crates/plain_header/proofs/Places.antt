@@ -47,15 +47,20 @@ module _ (s : List ℕ) (at : ℕ) (b : ℕ) where
 pub ruleset bytes = (needs, behind-past′, behind-it′, not-behind′)
 
 module _ (s : List ℕ) (at start : ℕ) (c : Bool) (e : c ≡ standsAt 58 s at) where
-  pub at-root′ : c ≡ true → 0 ≡ startOf s at start
+  pub colon-root′ : c ≡ true → 0 ≡ startOf s at start
   unfolding startOf
-  at-root′ q = rw (← e, q)
+  colon-root′ q = rw (← e, q)
 
-  pub at-start′ : c ≡ false → start ≡ startOf s at start
-  unfolding startOf
-  at-start′ q = rw (← e, q)
+  module _ (q : c ≡ false) (d : Bool) (f : d ≡ standsAt 42 s at) where
+    pub star-root′ : d ≡ true → 0 ≡ startOf s at start
+    unfolding startOf
+    star-root′ k = rw (← e, q, ← f, k)
 
-pub ruleset starts = (needs, at-root′, at-start′)
+    pub at-start′ : d ≡ false → start ≡ startOf s at start
+    unfolding startOf
+    at-start′ k = rw (← e, q, ← f, k)
+
+pub ruleset roots = (needs, colon-root′, star-root′, at-start′)
 
 module _ (s : List ℕ) (at : ℕ) where
   pub word-past′ : length s ≤ at → false ≡ beginsWord s at

@@ -43,7 +43,7 @@ use Rattle.header.specs.declared.Turn.the-variants as turn
 use Rattle.header.specs.declared.Header.{Header}
 use Rattle.header.specs.declared.Header.the-variants as header
 use Rattle.header.proofs.Descents.{finds, loses, settles, ends}
-use Rattle.plain_header.specs.Parts.{startOf, behindByte, beginsWord, isStart, goesOn, endsAt, aheadAt, Leads, to-leaf, to-refusal, no-way, Starred, Goes, goes-to-leaf, goes-to-refusal, goes-nowhere, Settled, settled-leaf, settled-none, not-settled}
+use Rattle.plain_header.specs.Parts.{behindByte, beginsWord, starts, isStart, keptBy, goesOn, endsAt, aheadAt, Goes, goes-to-leaf, goes-to-refusal, goes-nowhere, Settled, settled-leaf, settled-none, not-settled}
 use Rattle.plain_header.specs.declared.Way.{Way}
 use Rattle.plain_header.specs.declared.Way.the-variants as way
 use Rattle.plain_header.proofs.Places.{inside, there}
@@ -66,16 +66,32 @@ pub ruleset unsaids = (needs, not-ended′, none-unsaid′, leaf-unsaid′)
 
 -- where words begin
 
-module _ (t s : List ℕ) (n at : ℕ) (c : Bool) (e : c ≡ isBranch (getD t n 0)) where
-  pub no-start′ : not c ≡ true → false ≡ isStart t s n at
+module _ (t s : List ℕ) (star : Bool) (n at : ℕ) (c : Bool) (e : c ≡ isBranch (getD t n 0)) where
+  pub no-start′ : not c ≡ true → false ≡ isStart t s star n at
   unfolding isStart
   no-start′ q = rw (← e, not-true c q)
 
-  pub start′ : not c ≡ false → (r : Bool) → r ≡ beginsWord s at → r ≡ isStart t s n at
-  unfolding isStart
-  start′ q r er = rw (← e, not-false c q) er
+  module _ (q : not c ≡ false) (r : Bool) where
+    pub star-start′ : star ≡ true → r ≡ standsAt 42 s at → r ≡ isStart t s star n at
+    unfolding isStart
+    star-start′ k er = rw (← e, not-false c q, k) er
 
-pub ruleset start-laws = (needs, no-start′, start′)
+    pub word-start′ : star ≡ false → r ≡ beginsWord s at → r ≡ isStart t s star n at
+    unfolding isStart
+    word-start′ k er = rw (← e, not-false c q, k) er
+
+pub ruleset start-laws = (needs, no-start′, star-start′, word-start′)
+
+module _ (star : Bool) (b h : ℕ) where
+  pub keeps-branch′ : star ≡ true → b ≡ keptBy star b h
+  unfolding keptBy
+  keeps-branch′ k = rw k
+
+  pub keeps-holder′ : star ≡ false → h ≡ keptBy star b h
+  unfolding keptBy
+  keeps-holder′ k = rw k
+
+pub ruleset keep-laws = (needs, keeps-branch′, keeps-holder′)
 
 -- a word that is ahead
 
@@ -106,25 +122,30 @@ letter-there s p h = go (leb (length s) p) refl h
     go true e f = absurd (false≢true f)
     go false e f = (leb-false (length s) p e, f)
 
-module _ (s : List ℕ) (p : ℕ) (w : beginsWord s p ≡ true) (rd : Read) (er : rd ≡ mnemonic s p) where
+-- what a word makes of the step, with a star or without
+reads-word : (s : List ℕ) (p : ℕ) (star : Bool) → starts star s p ≡ true → (rd : Read) → rd ≡ mnemonic s p → (x : Seen) → x ≡ seenOf (readAs s (stateOf p true false) star rd) → x ≡ aheadAt s p false
+reads-word s p true w rd er x ex = star-seen′ s (stateOf p true false) x (inside s p 42 w) (there s p 42 w) rd er ex
+reads-word s p false w rd er x ex =
+    letter-seen′ s (stateOf p true false) x (letter-there s p w .0) (isLetter (getD s p 0)) refl (letter-there s p w .1) refl rd er ex
+
+module _ (s : List ℕ) (p : ℕ) (star : Bool) (w : starts star s p ≡ true) (rd : Read) (er : rd ≡ mnemonic s p) where
   pub refused-ahead : (e : ErrorCode) → rd ≡ read.Refused e → seenWith (ahead.Refused e) (stateOf (length s) true false) ≡ aheadAt s p false
   refused-ahead e q =
       let x : Seen = seenWith (ahead.Refused e) (stateOf (length s) true false) in
-      letter-seen′ s (stateOf p true false) x (letter-there s p w .0) (isLetter (getD s p 0)) refl (letter-there s p w .1) refl rd er
-      (read-refused′ s (stateOf p true false) x rd false e q (refusal-is′ s (stateOf p true false) e))
+      reads-word s p star w rd er x (read-refused′ s (stateOf p true false) x rd star e q (refusal-is′ s (stateOf p true false) e))
 
-  pub word-ahead : (k : Token) (next : ℕ) → rd ≡ read.Token k next → seenWith (ahead.Word (viewIn k)) (stateOf next true false) ≡ aheadAt s p false
+  pub word-ahead : (k : Token) (next : ℕ) → rd ≡ read.Token k next → seenWith (ahead.Word (viewIn k)) (stateOf next true star) ≡ aheadAt s p false
   word-ahead k next q =
-      let x : Seen = seenWith (ahead.Word (viewIn k)) (stateOf next true false) in
-      letter-seen′ s (stateOf p true false) x (letter-there s p w .0) (isLetter (getD s p 0)) refl (letter-there s p w .1) refl rd er
-      (read-token′ s (stateOf p true false) x rd k next q false
-      (taken-is′ k next true false (ahead.Word (viewIn k)) (ap tokenAhead (mnemonic-read s p k next (sym er ∙ q)))))
+      let x : Seen = seenWith (ahead.Word (viewIn k)) (stateOf next true star) in
+      reads-word s p star w rd er x
+      (read-token′ s (stateOf p true false) x rd k next q star
+      (taken-is′ k next true star (ahead.Word (viewIn k)) (ap tokenAhead (mnemonic-read s p k next (sym er ∙ q)))))
 
   pub turn-refused : (e : ErrorCode) → rd ≡ read.Refused e → turnOf s (aheadAt s p false) ≡ turn.Refused e
   unfolding turnOf
   turn-refused e q = sym (ap (turnOf s) (refused-ahead e q))
 
-  turn-word : (k : Token) (next : ℕ) → rd ≡ read.Token k next → turnOf s (aheadAt s p false) ≡ turn.Word (viewIn k) (stateOf next true false)
+  turn-word : (k : Token) (next : ℕ) → rd ≡ read.Token k next → turnOf s (aheadAt s p false) ≡ turn.Word (viewIn k) (stateOf next true star)
   unfolding turnOf
   turn-word k next q = sym (ap (turnOf s) (word-ahead k next q))
 
@@ -134,8 +155,8 @@ unfolding behindColon turnOf
 behind-colon s p w = go (mnemonic s p) refl
   where
     go : (rd : Read) → rd ≡ mnemonic s p → behindColon (aheadAt s p false) ≡ turnOf s (aheadAt s p false)
-    go (read.Token k next) er = sym (ap behindColon (word-ahead s p w (read.Token k next) er k next refl)) ∙ ap (turnOf s) (word-ahead s p w (read.Token k next) er k next refl)
-    go (read.Refused e) er = sym (ap behindColon (refused-ahead s p w (read.Refused e) er e refl)) ∙ ap (turnOf s) (refused-ahead s p w (read.Refused e) er e refl)
+    go (read.Token k next) er = sym (ap behindColon (word-ahead s p false w (read.Token k next) er k next refl)) ∙ ap (turnOf s) (word-ahead s p false w (read.Token k next) er k next refl)
+    go (read.Refused e) er = sym (ap behindColon (refused-ahead s p false w (read.Refused e) er e refl)) ∙ ap (turnOf s) (refused-ahead s p false w (read.Refused e) er e refl)
 
 or-true : (a : Bool) {b : Bool} → b ≡ true → (a || b) ≡ true
 or-true true e = refl
@@ -156,64 +177,69 @@ colon-turn s p h =
     sym (ap (turnOf s) (colon-ahead s p (inside s p 58 stands) (there s p 58 stands) w)) ∙ behind-colon s (p + 1) w
 
 -- What holds at the branch n, before a word at the place p: what is answered there is answered from the start.
-pub record On (t names s : List ℕ) (start first n p : ℕ) : Type 0 where
+pub record On (t names s : List ℕ) (star : Bool) (start first n p : ℕ) : Type 0 where
   pub held : branch t n ≡ true
-  pub word : beginsWord s p ≡ true
-  pub first-word : beginsWord s first ≡ true
+  pub word : starts star s p ≡ true
+  pub begun : isStart t s star start first ≡ true
   pub back : (r : Header) → ((h : ℕ) (x : Seen) → turnOf s x ≡ turnOf s (aheadAt s p false) → Reads t names s h n x r)
       → Reads t names s start start (aheadAt s first false) r
 
-module _ (t names s : List ℕ) (start first : ℕ) where
-  pub nowhere′ : Goes t names s start first way.Other
+module _ (t names s : List ℕ) (b : ℕ) (star : Bool) (start first : ℕ) where
+  pub nowhere′ : Goes t names s b star start first way.Other
   nowhere′ = goes-nowhere
 
-  pub on-first′ : (c : Bool) → c ≡ isStart t s start first → not c ≡ false → On t names s start first start first
+  pub on-first′ : (c : Bool) → c ≡ isStart t s star start first → not c ≡ false → On t names s star start first start first
   unfolding isStart
   on-first′ c ec q =
-      let both : isStart t s start first ≡ true = sym ec ∙ not-false c q in
-      let w : beginsWord s first ≡ true = and-right (branch t start) (beginsWord s first) both in
+      let both : isStart t s star start first ≡ true = sym ec ∙ not-false c q in
+      let w : starts star s first ≡ true = and-right (branch t start) (starts star s first) both in
       record {
-        held = and-left (branch t start) (beginsWord s first) both;
+        held = and-left (branch t start) (starts star s first) both;
         word = w;
-        first-word = w;
+        begun = both;
         back = λ r k. k start (aheadAt s first false) refl;
       }
 
-  module _ (n p : ℕ) (on : On t names s start first n p) (rd : Read) (er : rd ≡ mnemonic s p) where
-    pub too-long′ : (e : ErrorCode) → rd ≡ read.Refused e → Goes t names s start first (way.Refused e)
-    too-long′ e q = goes-to-refusal (on .first-word) (on .back _ (λ h x ex. headers.refused (on .held) (ex ∙ turn-refused s p (on .word) rd er e q)))
+  module _ (n p : ℕ) (on : On t names s star start first n p) (rd : Read) (er : rd ≡ mnemonic s p) where
+    pub too-long′ : (e : ErrorCode) → rd ≡ read.Refused e → Goes t names s b star start first (way.Refused e)
+    too-long′ e q = goes-to-refusal (on .begun) (on .back _ (λ h x ex. headers.refused (on .held) (ex ∙ turn-refused s p star (on .word) rd er e q)))
 
     module _ (k : Token) (next : ℕ) (ek : rd ≡ read.Token k next) (v : View) (ev : v ≡ viewIn k) (w : List ℕ) (ew : w ≡ partOf s v) (f : Found) (z : Finds t names w n f) where
-      pub unknown′ : f ≡ found.None → Goes t names s start first (way.Refused refusal.UndefinedHeader)
-      unknown′ e = goes-to-refusal (on .first-word) (on .back _ (λ h x ex. loses (on .held) (ex ∙ turn-word s p (on .word) rd er k next ek) (rw (e, ew, ev) at z)))
+      pub unknown′ : f ≡ found.None → Goes t names s b star start first (way.Refused refusal.UndefinedHeader)
+      unknown′ e = goes-to-refusal (on .begun) (on .back _ (λ h x ex. loses (on .held) (ex ∙ turn-word s p star (on .word) rd er k next ek) (rw (e, ew, ev) at z)))
 
       module _ (g m : ℕ) (ef : f ≡ found.Child g m) (c : Bool) (ec : c ≡ isBranch (getD t m 0)) where
-        onward : (r : Header) → Reads t names s g m (aheadAt s next false) r → Reads t names s start start (aheadAt s first false) r
-        onward r o = on .back r (λ h x ex. finds (on .held) (ex ∙ turn-word s p (on .word) rd er k next ek) (rw (ef, ew, ev) at z) o)
+        onward : (r : Header) → Reads t names s g m (aheadAt s next star) r → Reads t names s start start (aheadAt s first false) r
+        onward r o = on .back r (λ h x ex. finds (on .held) (ex ∙ turn-word s p star (on .word) rd er k next ek) (rw (ef, ew, ev) at z) o)
 
-        pub leaf-found′ : not c ≡ true → (d : ℕ) → d ≡ commandNumber (getD t m 0) → Goes t names s start first (way.Leaf d g next false)
-        leaf-found′ q d ed = goes-to-leaf (on .first-word) (onward (leafAnswer s d g (aheadAt s next false)) (rw ed (leaf (sym ec ∙ not-true c q))))
+        pub leaf-found′ : not c ≡ true → (d : ℕ) → d ≡ commandNumber (getD t m 0) → (a : ℕ) → a ≡ keptBy star b g → Goes t names s b star start first (way.Leaf d a next star)
+        leaf-found′ q d ed a ea = rw ea (goes-to-leaf g (on .begun) (onward (leafAnswer s d g (aheadAt s next star)) (rw ed (leaf (sym ec ∙ not-true c q)))))
 
-        settled : (x : Way) → Settled t s g m next x → branch t m ≡ true → Goes t names s start first x
-        settled _ (settled-leaf e y) b = goes-to-leaf (on .first-word) (onward _ (settles e b y))
-        settled _ (settled-none e y) b = goes-to-refusal (on .first-word) (onward _ (ends e b y))
-        settled _ not-settled b = goes-nowhere
+        module _ (q : not c ≡ false) (l : star ≡ false) where
+          on-plain : (r : Header) → Reads t names s g m (aheadAt s next false) r → Reads t names s start start (aheadAt s first false) r
+          on-plain r o = onward r (rw (← l) at o)
 
-        pub settled′ : not c ≡ false → (x : Way) → Settled t s g m next x → Goes t names s start first x
-        settled′ q x y = settled x y (sym ec ∙ not-false c q)
+          settled : (x : Way) → Settled t s g m next x → Goes t names s b star start first x
+          unfolding keptBy
+          settled _ (settled-leaf e y) = rw l (goes-to-leaf g (rw l at (on .begun)) (on-plain _ (settles e (sym ec ∙ not-false c q) y)))
+          settled _ (settled-none e y) = goes-to-refusal (on .begun) (on-plain _ (ends e (sym ec ∙ not-false c q) y))
+          settled _ not-settled = goes-nowhere
 
-        pub on-again′ : not c ≡ false → (b : Bool) → b ≡ goesOn s next → not b ≡ false → (p2 : ℕ) → p2 ≡ behindByte 58 s next → On t names s start first m p2
-        unfolding goesOn behindByte
-        on-again′ q b eb qb p2 e2 =
-            let goes : goesOn s next ≡ true = sym eb ∙ not-false b qb in
-            let stands : standsAt 58 s next ≡ true = and-left (standsAt 58 s next) (beginsWord s (next + 1)) goes in
-            let there : p2 ≡ next + 1 = e2 ∙ rw stands in
-            rw there
-            (record {
-              held = sym ec ∙ not-false c q;
-              word = and-right (standsAt 58 s next) (beginsWord s (next + 1)) goes;
-              first-word = on .first-word;
-              back = λ r k. onward r (k g (aheadAt s next false) (colon-turn s next goes));
-            })
+          pub settled′ : (x : Way) → Settled t s g m next x → Goes t names s b star start first x
+          settled′ x y = settled x y
+
+          pub on-again′ : (d : Bool) → d ≡ goesOn s next → not d ≡ false → (p2 : ℕ) → p2 ≡ behindByte 58 s next → On t names s star start first m p2
+          unfolding goesOn behindByte
+          on-again′ d ed qd p2 e2 =
+              let goes : goesOn s next ≡ true = sym ed ∙ not-false d qd in
+              let stands : standsAt 58 s next ≡ true = and-left (standsAt 58 s next) (beginsWord s (next + 1)) goes in
+              let there : p2 ≡ next + 1 = e2 ∙ rw stands in
+              rw there
+              (record {
+                held = sym ec ∙ not-false c q;
+                word = rw l (and-right (standsAt 58 s next) (beginsWord s (next + 1)) goes);
+                begun = on .begun;
+                back = λ r k2. on-plain r (k2 g (aheadAt s next false) (colon-turn s next goes));
+              })
 
 pub ruleset word-laws = (needs, nowhere′, on-first′, too-long′, unknown′, leaf-found′, settled′, on-again′)

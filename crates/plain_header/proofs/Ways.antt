@@ -1,16 +1,19 @@
 -- Laws of the way of a header, as the code meets them.
-use Prim.Native.Nat.{ℕ, zero, suc, _+_, _-_, _<_}
+use Prim.Native.Nat.{ℕ, zero, suc, _+_, _-_, _≤_, _<_, zero-le, suc-le-suc}
 use mathlib.Core.Path.{_≡_, refl, sym, ap, _∙_}
 use mathlib.Core.List.{List, [], _∷_}
 use mathlib.Core.Bool.{Bool, true, false, not, cond, _&&_, false≢true}
 use lib.Dec.{eqb, leb, ltb}
 use lib.ListN.{length, getD, take, drop}
 use borrow.Author.Needs.{needs}
-use borrow.Author.Tests.{eqb-true, not-true, not-false}
+use native.Mathlib.Omega.{arith}
+use borrow.Author.Tests.{le-leb, not-false}
 use Rattle.error.specs.declared.ErrorCode.{ErrorCode}
 use Rattle.error.specs.declared.ErrorCode.the-variants as refusal
 use Rattle.kind.specs.Class.{isLetter, isCapital, isSmall, inMnemonic}
+use Rattle.kind.proofs.Tests.{and-left, and-right}
 use Rattle.util.specs.Run.{runEnd, standsAt}
+use Rattle.util.proofs.Runs.{run-from}
 use Rattle.node.specs.Word.{isBranch, commandNumber}
 use Rattle.node.specs.Tree.{branch}
 use Rattle.branch.specs.Ways.{Finds}
@@ -23,11 +26,13 @@ use Rattle.token.specs.declared.Token.{Token}
 use Rattle.token.specs.declared.Token.the-variants.{ProgramMnemonic}
 use Rattle.item.specs.Follow.{token, refused}
 use Rattle.item.specs.Word.{starEnd, mnemonic}
+use Rattle.item.proofs.Accepted.{run-most}
 use Rattle.item.specs.declared.Read.{Read}
 use Rattle.item.specs.declared.Read.the-variants as read
 use Rattle.tokenizer.specs.Step.{stateOf}
 use Rattle.tokenizer.specs.declared.State.{State}
 use Rattle.ahead.specs.Seen.{tokenAhead, seenWith, seenAt}
+use Rattle.ahead.specs.declared.Stop.the-variants as stop
 use Rattle.ahead.specs.declared.Ahead.{Ahead}
 use Rattle.ahead.specs.declared.Ahead.the-variants as ahead
 use Rattle.ahead.specs.declared.Seen.{Seen}
@@ -40,10 +45,13 @@ use Rattle.header.specs.declared.Header.{Header}
 use Rattle.header.specs.declared.Header.the-variants as header
 use Rattle.header.proofs.Descents.{finds, loses}
 use Rattle.header.proofs.Once.{one-reading}
-use Rattle.plain_header.specs.Parts.{startOf, behindByte, beginsWord, aheadAt, Leads, to-leaf, to-refusal, no-way, Starred, Stars, Goes, goes-to-leaf, goes-to-refusal, goes-nowhere}
+use Rattle.plain_header.specs.Parts.{startOf, behindByte, beginsWord, starts, isStart, keptBy, haltOf, aheadAt, Leads, to-leaf, to-refusal, no-way, Goes, goes-to-leaf, goes-to-refusal, goes-nowhere}
 use Rattle.plain_header.specs.declared.Way.{Way}
 use Rattle.plain_header.specs.declared.Way.the-variants as way
-use Rattle.plain_header.proofs.Places.{inside, there}
+use Rattle.plain_header.specs.declared.Halt.{Halt}
+use Rattle.plain_header.specs.declared.Halt.the-variants as halt
+use Rattle.plain_header.proofs.Places.{inside, there, stands}
+use Rattle.plain_header.proofs.Endings.{close-text, close-separator, close-unit}
 use Rattle.plain_header.proofs.Spoken.{tokenIn, isToken, mnemonic-read, letter-there, refused-ahead, word-ahead, turn-refused, colon-ahead}
 
 -- the branch of a leaf's answer is the one that it is asked to keep
@@ -68,51 +76,6 @@ kept-leaf s c g b y = go (y .ahead)
     go ahead.Query = kept-query c g b (seenAt s (y .state))
     go (ahead.Word w) = refl
     go ahead.Colon = refl
-
--- a common command
-
-module _ (t names s : List ℕ) (b p : ℕ) where
-  pub no-common′ : Stars t names s b p way.Other
-  no-common′ = record { led = λ a. no-way }
-
-  module _ (c : Bool) (ec : c ≡ isBranch (getD t 0 0)) (q : not c ≡ false) (rd : Read) (er : rd ≡ mnemonic s p) where
-    refused-led : (e : ErrorCode) → rd ≡ read.Refused e → Starred t s b p → Leads t names s b (stateOf p true false) (way.Refused e)
-    refused-led e k a =
-        let st : State = stateOf p true false in
-        let x : Seen = seenWith (ahead.Refused e) (stateOf (length s) true false) in
-        let seen : x ≡ seenAt s st = star-seen′ s st x (a .inside) (a .star) rd er (looks.read-refused′ s st x rd true e k (refusal-is′ s st e)) in
-        to-refusal (first-refused (a .held) (ap (λ y. y .ahead) (sym seen)))
-
-    pub star-refused′ : (e : ErrorCode) → rd ≡ read.Refused e → Stars t names s b p (way.Refused e)
-    star-refused′ e k = record { led = refused-led e k }
-
-    module _ (k : Token) (next : ℕ) (ek : rd ≡ read.Token k next) (v : View) (ev : v ≡ viewIn k) (w : List ℕ) (ew : w ≡ partOf s v) (d : Bool) (ed : d ≡ standsAt 42 w 0) (qd : not d ≡ false)
-        (f : Found) (z : Finds t names w 0 f) where
-      seen : Starred t s b p → seenWith (ahead.Word v) (stateOf next true true) ≡ aheadAt s p false
-      seen a =
-          let st : State = stateOf p true false in
-          let x : Seen = seenWith (ahead.Word v) (stateOf next true true) in
-          star-seen′ s st x (a .inside) (a .star) rd er
-          (read-token′ s st x rd k next ek true (taken-is′ k next true true (ahead.Word v) (ap ahead.Word ev ∙ ap tokenAhead (mnemonic-read s p k next (sym er ∙ ek)))))
-
-      begun : Starred t s b p → (r : Header) → Reads t names s 0 0 (aheadAt s p false) r → Begins t names s b (aheadAt s p false) (keeping b r)
-      begun a r o = common (a .held) (ap (λ y. y .ahead) (sym (seen a))) (ap (λ l. standsAt 42 l 0) (sym ew) ∙ (sym ed ∙ not-false d qd)) o
-
-      turned : Starred t s b p → turnOf s (aheadAt s p false) ≡ turn.Word v (stateOf next true true)
-      unfolding turnOf
-      turned a = sym (ap (turnOf s) (seen a))
-
-      pub star-unknown′ : f ≡ found.None → Stars t names s b p (way.Refused refusal.UndefinedHeader)
-      star-unknown′ e = record { led = λ a. to-refusal (begun a _ (loses (sym ec ∙ not-false c q) (turned a) (rw (e, ew) at z))) }
-
-      leaf-star : (g m : ℕ) → f ≡ found.Child g m → (n : ℕ) → Reads t names s g m (aheadAt s next true) (leafAnswer s n g (aheadAt s next true)) → Starred t s b p
-          → Leads t names s b (stateOf p true false) (way.Leaf n b next true)
-      leaf-star g m e n o a = to-leaf (rw (kept-leaf s n g b (aheadAt s next true)) at (begun a _ (finds (sym ec ∙ not-false c q) (turned a) (rw (e, ew) at z) o)))
-
-      pub star-leaf′ : (g m : ℕ) → f ≡ found.Child g m → (l : Bool) → l ≡ isBranch (getD t m 0) → l ≡ false → (n : ℕ) → n ≡ commandNumber (getD t m 0) → Stars t names s b p (way.Leaf n b next true)
-      star-leaf′ g m e l el ql n en = record { led = leaf-star g m e n (rw en (leaf (sym el ∙ ql))) }
-
-pub ruleset star-laws = (needs, no-common′, star-refused′, star-unknown′, star-leaf′)
 
 -- a word that a letter begins has no star
 
@@ -146,52 +109,145 @@ module _ (s : List ℕ) (p : ℕ) (l : isLetter (getD s p 0) ≡ true) where
       go true f = rw (← ap tokenIn f) (no-star (runEnd inMnemonic s (starEnd s p)))
       go false f = absurd (false≢true (ap isToken f))
 
--- the way of words, from the root or from the branch itself
+-- and one that a star begins has it
+
+star-first : (n p : ℕ) (s : List ℕ) → standsAt 42 s p ≡ true → standsAt 42 (take (suc n) (drop p s)) 0 ≡ true
+unfolding standsAt
+star-first n zero [] h = absurd (false≢true h)
+star-first n zero (c ∷ s) h = stands (c ∷ take n s) 0 42 (suc-le-suc zero-le) (there (c ∷ s) 0 42 h)
+star-first n (suc p) [] h = absurd (omega (arith, inside [] (suc p) 42 h))
+star-first n (suc p) (c ∷ s) h = star-first n p s (stands s p 42 (omega (arith, inside (c ∷ s) (suc p) 42 h)) (there (c ∷ s) (suc p) 42 h))
+
+module _ (s : List ℕ) (p : ℕ) (w : standsAt 42 s p ≡ true) where
+  star-part : (e : ℕ) → p < e → e ≤ length s → standsAt 42 (partOf s (viewOf p e)) 0 ≡ true
+  unfolding partOf
+  star-part e l h = rw (le-leb e (length s) h, le-leb p e (omega (arith, l))) (go (e - p) (omega (arith, l)))
+    where
+      go : (n : ℕ) → 0 < n → standsAt 42 (take n (drop p s)) 0 ≡ true
+      go zero z = absurd (omega (arith, z))
+      go (suc n) z = star-first n p s w
+
+  star-end : starEnd s p ≡ p + 1
+  unfolding starEnd
+  star-end = rw w
+
+  star-word : (k : Token) (next : ℕ) → mnemonic s p ≡ read.Token k next → isCommon s (viewIn k) ≡ true
+  unfolding mnemonic
+  star-word k next e = go (leb (runEnd inMnemonic s (starEnd s p) - p) 12) e
+    where
+      end : ℕ
+      end = runEnd inMnemonic s (starEnd s p)
+
+      low : p < end
+      low =
+          let h : p + 1 ≤ end = rw star-end (run-from inMnemonic s (p + 1)) in
+          omega (arith, h)
+
+      high : end ≤ length s
+      high = rw star-end (run-most s inMnemonic (p + 1) (omega (arith, inside s p 42 w)))
+
+      go : (b : Bool) → cond b (token (ProgramMnemonic (viewOf p (runEnd inMnemonic s (starEnd s p)))) (runEnd inMnemonic s (starEnd s p))) (refused refusal.ProgramMnemonicTooLong) ≡ read.Token k next
+          → isCommon s (viewIn k) ≡ true
+      go true f = rw (← ap tokenIn f) (star-part end low high)
+      go false f = absurd (false≢true (ap isToken f))
+
+-- the way of words: from the root, of a common command, or from the branch itself
 
 module _ (t names s : List ℕ) (b p : ℕ) (held : branch t b ≡ true) where
   along : {x y : Seen} {r : Header} → x ≡ y → Begins t names s b x r → Begins t names s b y r
   along e o = rw e at o
 
-  rooted : (x : Way) → standsAt 58 s p ≡ true → Goes t names s 0 (p + 1) x → Leads t names s b (stateOf p true false) x
-  rooted _ e (goes-to-leaf w o) = to-leaf (along (colon-ahead s p (inside s p 58 e) (there s p 58 e) w) (from-root held refl o))
-  rooted _ e (goes-to-refusal w o) = to-refusal (along (colon-ahead s p (inside s p 58 e) (there s p 58 e) w) (from-root held refl o))
+  rooted : (x : Way) → standsAt 58 s p ≡ true → Goes t names s b false 0 (p + 1) x → Leads t names s b (stateOf p true false) x
+  unfolding isStart keptBy
+  rooted _ e (goes-to-leaf h w o) =
+      to-leaf (along (colon-ahead s p (inside s p 58 e) (there s p 58 e) (and-right (branch t 0) (beginsWord s (p + 1)) w)) (from-root held refl o))
+  rooted _ e (goes-to-refusal w o) =
+      to-refusal (along (colon-ahead s p (inside s p 58 e) (there s p 58 e) (and-right (branch t 0) (beginsWord s (p + 1)) w)) (from-root held refl o))
   rooted _ e goes-nowhere = no-way
 
-  begun-here : {r : Header} → beginsWord s p ≡ true → Reads t names s b b (aheadAt s p false) r → Begins t names s b (aheadAt s p false) r
+  -- what is answered from the node n on, where the first word is refused
+  refused-first : (n : ℕ) (star : Bool) {r : Header} → isStart t s star n p ≡ true → Reads t names s n n (aheadAt s p false) r → (e : ErrorCode) → mnemonic s p ≡ read.Refused e
+      → Begins t names s b (aheadAt s p false) r × (header.Refused e ≡ r)
+  unfolding isStart
+  refused-first n star w o e er =
+      let begins : starts star s p ≡ true = and-right (branch t n) (starts star s p) w in
+      let known : Reads t names s n n (aheadAt s p false) (header.Refused e) =
+      headers.refused (and-left (branch t n) (starts star s p) w) (turn-refused s p star begins (mnemonic s p) refl e er) in
+      let first : Begins t names s b (aheadAt s p false) (header.Refused e) =
+      first-refused held (ap (λ y. y .ahead) (sym (refused-ahead s p star begins (mnemonic s p) refl e er))) in
+      let same : header.Refused e ≡ _ = one-reading known o in
+      (rw same at first, same)
+
+  begun-here : {r : Header} → isStart t s false b p ≡ true → Reads t names s b b (aheadAt s p false) r → Begins t names s b (aheadAt s p false) r
+  unfolding isStart
   begun-here {r} w o = go (mnemonic s p) refl
     where
-      go : (rd : Read) → rd ≡ mnemonic s p → Begins t names s b (aheadAt s p false) r
-      go (read.Token k next) er = from-branch held (ap (λ y. y .ahead) (sym (word-ahead s p w (read.Token k next) er k next refl))) (plain-word s p (letter-there s p w .1) k next (sym er)) o
-      go (read.Refused e) er =
-          let known : Reads t names s b b (aheadAt s p false) (header.Refused e) = headers.refused held (turn-refused s p w (read.Refused e) er e refl) in
-          let first : Begins t names s b (aheadAt s p false) (header.Refused e) = first-refused held (ap (λ y. y .ahead) (sym (refused-ahead s p w (read.Refused e) er e refl))) in
-          rw (one-reading known o) at first
+      begins : beginsWord s p ≡ true
+      begins = and-right (branch t b) (beginsWord s p) w
 
-  branched : (x : Way) → Goes t names s b p x → Leads t names s b (stateOf p true false) x
-  branched _ (goes-to-leaf w o) = to-leaf (begun-here w o)
+      go : (rd : Read) → rd ≡ mnemonic s p → Begins t names s b (aheadAt s p false) r
+      go (read.Token k next) er =
+          from-branch held (ap (λ y. y .ahead) (sym (word-ahead s p false begins (read.Token k next) er k next refl))) (plain-word s p (letter-there s p begins .1) k next (sym er)) o
+      go (read.Refused e) er = refused-first b false w o e (sym er) .0
+
+  branched : (x : Way) → Goes t names s b false b p x → Leads t names s b (stateOf p true false) x
+  unfolding keptBy
+  branched _ (goes-to-leaf h w o) = to-leaf (begun-here w o)
   branched _ (goes-to-refusal w o) = to-refusal (begun-here w o)
   branched _ goes-nowhere = no-way
 
-  worded : (x : Way) (c : Bool) → standsAt 58 s p ≡ c → Goes t names s (startOf s p b) (behindByte 58 s p) x → Leads t names s b (stateOf p true false) x
+  begun-common : {r : Header} → isStart t s true 0 p ≡ true → Reads t names s 0 0 (aheadAt s p false) r → Begins t names s b (aheadAt s p false) (keeping b r)
+  unfolding isStart
+  begun-common {r} w o = go (mnemonic s p) refl
+    where
+      begins : standsAt 42 s p ≡ true
+      begins = and-right (branch t 0) (standsAt 42 s p) w
+
+      go : (rd : Read) → rd ≡ mnemonic s p → Begins t names s b (aheadAt s p false) (keeping b r)
+      go (read.Token k next) er =
+          common held (ap (λ y. y .ahead) (sym (word-ahead s p true begins (read.Token k next) er k next refl))) (star-word s p begins k next (sym er)) o
+      go (read.Refused e) er =
+          let known = refused-first 0 true w o e (sym er) in
+          let same : r ≡ keeping b r = sym (known .1) ∙ ap (keeping b) (known .1) in
+          rw same at (known .0)
+
+  starred : (x : Way) → Goes t names s b true 0 p x → Leads t names s b (stateOf p true false) x
+  unfolding keptBy
+  starred _ (goes-to-leaf {c} {e} h w o) = to-leaf (rw (kept-leaf s c h b (aheadAt s e true)) at (begun-common w o))
+  starred _ (goes-to-refusal w o) = to-refusal (begun-common w o)
+  starred _ goes-nowhere = no-way
+
+  -- a byte is not two
+  not-star : standsAt 58 s p ≡ true → standsAt 42 s p ≡ false
+  not-star e = go (standsAt 42 s p) refl
+    where
+      go : (d : Bool) → standsAt 42 s p ≡ d → d ≡ false
+      go true f = absurd (omega (arith, there s p 58 e, there s p 42 f))
+      go false f = refl
+
+  worded : (x : Way) (c d : Bool) → standsAt 58 s p ≡ c → standsAt 42 s p ≡ d → Goes t names s b (standsAt 42 s p) (startOf s p b) (behindByte 58 s p) x
+      → Leads t names s b (stateOf p true false) x
   unfolding startOf behindByte
-  worded x true e g = rooted x e (rw e at g)
-  worded x false e g = branched x (rw e at g)
+  worded x true d e f g = rooted x e (rw (e, not-star e) at g)
+  worded x false true e f g = starred x (rw (e, f) at g)
+  worded x false false e f g = branched x (rw (e, f) at g)
 
 module _ (t names s : List ℕ) (b : ℕ) (st : State) where
   pub no-way′ : Leads t names s b st way.Other
   no-way′ = no-way
 
-  module _ (qh : not (st .in_header) ≡ false) (qc : st .in_common ≡ false) (c : Bool) (ec : c ≡ isBranch (getD t b 0)) (q : not c ≡ false) (l : st .place < length s) where
+  module _ (qh : not (st .in_header) ≡ false) (qc : st .in_common ≡ false) (c : Bool) (ec : c ≡ isBranch (getD t b 0)) (q : not c ≡ false) where
     same : stateOf (st .place) true false ≡ st
     same = ap (λ h. stateOf (st .place) h false) (sym (not-false (st .in_header) qh)) ∙ ap (λ k. stateOf (st .place) (st .in_header) k) (sym qc)
 
-    pub star-way′ : getD s (st .place) 0 ≡ 42 → (x : Way) → Stars t names s b (st .place) x → Leads t names s b st x
-    star-way′ e x o = rw same at (o .led (record { held = sym ec ∙ not-false c q; inside = l; star = e }))
+    pub word-way′ : (d : Bool) → d ≡ standsAt 42 s (st .place) → (n : ℕ) → n ≡ startOf s (st .place) b → (m : ℕ) → m ≡ behindByte 58 s (st .place) → (x : Way)
+        → Goes t names s b d n m x → Leads t names s b st x
+    word-way′ d ed n en m em x g =
+        let p = st .place in
+        rw same
+        at (worded t names s b p (sym ec ∙ not-false c q) x (standsAt 58 s p) (standsAt 42 s p) refl refl (rw (ed, en, em) at g))
 
-    pub word-way′ : (n : ℕ) → n ≡ startOf s (st .place) b → (m : ℕ) → m ≡ behindByte 58 s (st .place) → (x : Way) → Goes t names s n m x → Leads t names s b st x
-    word-way′ n en m em x g = rw same at (worded t names s b (st .place) (sym ec ∙ not-false c q) x (standsAt 58 s (st .place)) refl (rw (en, em) at g))
-
-pub ruleset lead-laws = (needs, no-way′, star-way′, word-way′)
+pub ruleset lead-laws = (needs, no-way′, word-way′)
 
 -- the answer by the way
 
@@ -203,13 +259,25 @@ module _ {t names s : List ℕ} {b : ℕ} {st : State} where
   refusal-led (to-refusal o) = o
 
 module _ (t names s : List ℕ) (b : ℕ) (st : State) (x : Way) (o : Leads t names s b st x) where
-  pub read-leaf′ : (c kept p : ℕ) (m : Bool) → x ≡ way.Leaf c kept p m → (r : Header) → r ≡ leafAnswer s c kept (aheadAt s p m) → Begins t names s b (seenAt s st) r
-  read-leaf′ c kept p m e r er = rw er (leaf-led (rw e at o))
-
   pub read-refused′ : (e : ErrorCode) → x ≡ way.Refused e → Begins t names s b (seenAt s st) (header.Refused e)
   read-refused′ e q = refusal-led (rw q at o)
+
+  module _ (c kept p : ℕ) (m : Bool) (e : x ≡ way.Leaf c kept p m) (q : Bool) (eq : q ≡ standsAt 63 s p) (at : ℕ) (ea : at ≡ behindByte 63 s p) (y : Halt) (ey : y ≡ haltOf s at) where
+    led : Begins t names s b (seenAt s st) (leafAnswer s c kept (aheadAt s p m))
+    led = leaf-led (rw e at o)
+
+    pub read-text′ : y ≡ halt.Text → Begins t names s b (seenAt s st) (header.Found c q kept stop.Text (stateOf at (not q) m))
+    read-text′ k = rw (close-text s p m c kept q eq at ea y ey k) led
+
+    pub read-separator′ : (n : ℕ) → y ≡ halt.Separator n → Begins t names s b (seenAt s st) (header.Found c q kept stop.Separator (stateOf n false m))
+    read-separator′ n k = rw (close-separator s p m c kept q eq at ea y ey n k) led
+
+    pub read-unit′ : (n : ℕ) → y ≡ halt.Unit n → Begins t names s b (seenAt s st) (header.Found c q kept stop.Unit (stateOf n true false))
+    read-unit′ n k = rw (close-unit s p m c kept q eq at ea y ey n k) led
+
+pub ruleset read-laws = (needs, read-refused′, read-text′, read-separator′, read-unit′)
 
 pub read-other′ : (t names s : List ℕ) (b : ℕ) (st : State) (y : Seen) → y ≡ seenAt s st → (r : Header) → Begins t names s b y r → Begins t names s b (seenAt s st) r
 read-other′ t names s b st y e r o = rw e at o
 
-pub ruleset read-laws = (needs, read-leaf′, read-refused′, read-other′)
+pub ruleset token-laws = (needs, read-other′)

@@ -30,17 +30,26 @@ use Rattle.plain_header.specs.declared.Halt.the-variants as halt
 unfoldable pub behindByte : ℕ → List ℕ → ℕ → ℕ
 behindByte b s at = cond (standsAt b s at) (at + 1) at
 
--- a leading colon starts at the root
+-- a leading colon starts at the root, and so does a common command
 unfoldable pub startOf : List ℕ → ℕ → ℕ → ℕ
-startOf s at start = cond (standsAt (code ":") s at) 0 start
+startOf s at start = cond (standsAt (code ":") s at) 0 (cond (standsAt (code "*") s at) 0 start)
 
 -- a letter stands at the place
 unfoldable pub beginsWord : List ℕ → ℕ → Bool
 beginsWord s at = cond (leb (length s) at) false (isLetter (getD s at 0))
 
+-- a word begins at the place, with a star or without
+abbrev pub starts : Bool → List ℕ → ℕ → Bool
+starts true s at = standsAt (code "*") s at
+starts false s at = beginsWord s at
+
 -- words are looked for from the branch n, and one stands at the place
-unfoldable pub isStart : List ℕ → List ℕ → ℕ → ℕ → Bool
-isStart t s n at = branch t n && beginsWord s at
+unfoldable pub isStart : List ℕ → List ℕ → Bool → ℕ → ℕ → Bool
+isStart t s star n at = branch t n && starts star s at
+
+-- a common command leaves the branch b as it was
+unfoldable pub keptBy : Bool → ℕ → ℕ → ℕ
+keptBy star b holder = cond star b holder
 
 -- a colon stands at the place, and a letter behind it
 unfoldable pub goesOn : List ℕ → ℕ → Bool
@@ -75,22 +84,13 @@ pub data Leads (t names s : List ℕ) (b : ℕ) (st : State) : Way → Type 0 wh
   to-refusal : {e : ErrorCode} → Begins t names s b (seenAt s st) (header.Refused e) → Leads t names s b st (way.Refused e)
   no-way : Leads t names s b st way.Other
 
--- a star stands at the place p, and a header starts from the branch b
-pub record Starred (t s : List ℕ) (b p : ℕ) : Type 0 where
-  pub held : branch t b ≡ true
-  pub inside : p < length s
-  pub star : getD s p 0 ≡ code "*"
-
--- the way x of the header of a common command, where that is so
-pub record Stars (t names s : List ℕ) (b p : ℕ) (x : Way) : Type 0 where
-  pub led : Starred t s b p → Leads t names s b (stateOf p true false) x
-
--- Goes t names s n p x: the way x from the branch n on, where the first word stands at the place p.
-pub data Goes (t names s : List ℕ) (n p : ℕ) : Way → Type 0 where
-  goes-to-leaf : {c kept e : ℕ} → beginsWord s p ≡ true → Reads t names s n n (aheadAt s p false) (leafAnswer s c kept (aheadAt s e false))
-      → Goes t names s n p (way.Leaf c kept e false)
-  goes-to-refusal : {e : ErrorCode} → beginsWord s p ≡ true → Reads t names s n n (aheadAt s p false) (header.Refused e) → Goes t names s n p (way.Refused e)
-  goes-nowhere : Goes t names s n p way.Other
+-- Goes t names s b star n p x: the way x from the branch n on, where the first word stands at the place p, with a star or without; b is the
+-- branch that a common command keeps.
+pub data Goes (t names s : List ℕ) (b : ℕ) (star : Bool) (n p : ℕ) : Way → Type 0 where
+  goes-to-leaf : {c e : ℕ} (h : ℕ) → isStart t s star n p ≡ true → Reads t names s n n (aheadAt s p false) (leafAnswer s c h (aheadAt s e star))
+      → Goes t names s b star n p (way.Leaf c (keptBy star b h) e star)
+  goes-to-refusal : {e : ErrorCode} → isStart t s star n p ≡ true → Reads t names s n n (aheadAt s p false) (header.Refused e) → Goes t names s b star n p (way.Refused e)
+  goes-nowhere : Goes t names s b star n p way.Other
 
 -- Settled t s h n p x: the way x where the header ends at the branch n, behind a word that stands before the place p; h is kept.
 pub data Settled (t s : List ℕ) (h n p : ℕ) : Way → Type 0 where

@@ -1,18 +1,15 @@
 // Plain headers: mnemonics with `:` between them, or one with a star, behind which `?` may stand. They are read here at once, and every
 // other header token by token. `exec` of tree/mod.rs of the original.
-ghost use mathlib.Core.Bool.{true};
 ghost use mathlib.Core.Path.{_≡_};
 ghost use Rattle.ahead.specs.Seen.{seenAt};
-ghost use Rattle.header.specs.Header.{leafAnswer, Begins};
-ghost use Rattle.tokenizer.specs.Step.{stateOf};
-ghost use Rattle.plain_header.specs.Parts.{startOf, behindByte, beginsWord, isStart, goesOn, haltOf, endsAt, Leads, Stars, Goes, Settled};
+ghost use Rattle.header.specs.Header.{Begins};
+ghost use Rattle.plain_header.specs.Parts.{startOf, behindByte, beginsWord, isStart, keptBy, goesOn, haltOf, endsAt, Leads, Goes, Settled};
 use ahead::Stop;
 use branch::Found;
 use branch::Pick;
 use error::ErrorCode;
 use header::Header;
 use item::Read;
-use token::View;
 use tokenizer::State;
 
 // What the words of a header lead to.
@@ -42,15 +39,61 @@ pub fn read(nodes: &[u64], names: &[u8], s: &[u8], start: usize, state: State) -
     ensures { λ r. ⌜ Begins (now (nodes .entry)) (now (names .entry)) (now (s .entry)) start (seenAt (now (s .entry)) state) r ⌝ }
 {
     match lead(nodes, names, s, start, state) {
+        Way::Other => token_by_token(nodes, names, s, start, state),
+        Way::Refused(e) => Header::Refused(e),
         Way::Leaf {
             command,
             kept,
             place,
             common,
-        } => close(s, command, kept, place, common),
-        Way::Refused(e) => Header::Refused(e),
-        Way::Other => header::resolve(nodes, names, s, start, ahead::look(s, state)),
+        } => {
+            let query = util::stands(s, place, b'?');
+            let at = behind(s, place, b'?');
+            match ending(s, at) {
+                Halt::Other => token_by_token(nodes, names, s, start, state),
+                Halt::Text => Header::Found {
+                    command,
+                    query,
+                    branch: kept,
+                    stop: Stop::Text,
+                    state: State {
+                        place: at,
+                        in_header: !query,
+                        in_common: common,
+                    },
+                },
+                Halt::Separator(next) => Header::Found {
+                    command,
+                    query,
+                    branch: kept,
+                    stop: Stop::Separator,
+                    state: State {
+                        place: next,
+                        in_header: false,
+                        in_common: common,
+                    },
+                },
+                Halt::Unit(next) => Header::Found {
+                    command,
+                    query,
+                    branch: kept,
+                    stop: Stop::Unit,
+                    state: State {
+                        place: next,
+                        in_header: true,
+                        in_common: false,
+                    },
+                },
+            }
+        }
     }
+}
+
+// Every other header.
+fn token_by_token(nodes: &[u64], names: &[u8], s: &[u8], start: usize, state: State) -> Header
+    ensures { λ r. ⌜ Begins (now (nodes .entry)) (now (names .entry)) (now (s .entry)) start (seenAt (now (s .entry)) state) r ⌝ }
+{
+    header::resolve(nodes, names, s, start, ahead::look(s, state))
 }
 
 // The way of a header, by its first byte.
@@ -70,17 +113,25 @@ fn lead(nodes: &[u64], names: &[u8], s: &[u8], start: usize, state: State) -> Wa
     if s.len() <= at {
         return Way::Other;
     }
-    if s[at] == b'*' {
-        return common(nodes, names, s, start, at);
-    }
-    words(nodes, names, s, start_of(s, at, start), behind(s, at, b':'))
+    words(
+        nodes,
+        names,
+        s,
+        start,
+        util::stands(s, at, b'*'),
+        start_of(s, at, start),
+        behind(s, at, b':'),
+    )
 }
 
-// A leading colon starts at the root.
+// A leading colon starts at the root, and so does a common command.
 fn start_of(s: &[u8], at: usize, start: usize) -> usize
     ensures { λ r. ⌜ r ≡ startOf (now (s .entry)) at start ⌝ }
 {
     if util::stands(s, at, b':') {
+        return 0;
+    }
+    if util::stands(s, at, b'*') {
         return 0;
     }
     start
@@ -99,44 +150,19 @@ fn behind(s: &[u8], at: usize, b: u8) -> usize
     at
 }
 
-// A common command, which is looked for at the root.
-fn common(nodes: &[u64], names: &[u8], s: &[u8], start: usize, at: usize) -> Way
-    ensures { λ r. ⌜ Stars (now (nodes .entry)) (now (names .entry)) (now (s .entry)) start at r ⌝ }
+// Goes down from a branch, word by word, or to the one word of a common command.
+fn words(
+    nodes: &[u64],
+    names: &[u8],
+    s: &[u8],
+    branch: usize,
+    star: bool,
+    start: usize,
+    first: usize,
+) -> Way
+    ensures { λ r. ⌜ Goes (now (nodes .entry)) (now (names .entry)) (now (s .entry)) branch star start first r ⌝ }
 {
-    if !branch::is_branch(nodes, 0) {
-        return Way::Other;
-    }
-    match item::read_mnemonic(s, at) {
-        Read::Refused(e) => Way::Refused(e),
-        Read::Token { token, next } => {
-            let word = token::part(s, token.view());
-            if !util::stands(word, 0, b'*') {
-                return Way::Other;
-            }
-            match branch::find(nodes, names, 0, word) {
-                Found::None => Way::Refused(ErrorCode::UndefinedHeader),
-                Found::Child { holder: _, child } => {
-                    let node = nodes[child];
-                    if node::is_branch(node) {
-                        return Way::Other;
-                    }
-                    Way::Leaf {
-                        command: node::command_number(node),
-                        kept: start,
-                        place: next,
-                        common: true,
-                    }
-                }
-            }
-        }
-    }
-}
-
-// Goes down from a branch, word by word.
-fn words(nodes: &[u64], names: &[u8], s: &[u8], start: usize, first: usize) -> Way
-    ensures { λ r. ⌜ Goes (now (nodes .entry)) (now (names .entry)) (now (s .entry)) start first r ⌝ }
-{
-    if !is_start(nodes, s, start, first) {
+    if !is_start(nodes, s, star, start, first) {
         return Way::Other;
     }
     let mut at = start;
@@ -152,10 +178,13 @@ fn words(nodes: &[u64], names: &[u8], s: &[u8], start: usize, first: usize) -> W
                         if !node::is_branch(node) {
                             return Way::Leaf {
                                 command: node::command_number(node),
-                                kept: holder,
+                                kept: keep(star, branch, holder),
                                 place: next,
-                                common: false,
+                                common: star,
                             };
+                        }
+                        if star {
+                            return Way::Other;
                         }
                         if !goes_on(s, next) {
                             return unsaid(nodes, s, holder, child, next);
@@ -169,12 +198,25 @@ fn words(nodes: &[u64], names: &[u8], s: &[u8], start: usize, first: usize) -> W
     }
 }
 
-// Whether words are looked for from a node, and one stands at the place.
-fn is_start(nodes: &[u64], s: &[u8], n: usize, at: usize) -> bool
-    ensures { λ r. ⌜ r ≡ isStart (now (nodes .entry)) (now (s .entry)) n at ⌝ }
+// A common command leaves the branch as it was.
+fn keep(star: bool, branch: usize, holder: usize) -> usize
+    ensures { λ r. ⌜ r ≡ keptBy star branch holder ⌝ }
+{
+    if star {
+        return branch;
+    }
+    holder
+}
+
+// Whether words are looked for from a node, and one stands at the place, with a star or without.
+fn is_start(nodes: &[u64], s: &[u8], star: bool, n: usize, at: usize) -> bool
+    ensures { λ r. ⌜ r ≡ isStart (now (nodes .entry)) (now (s .entry)) star n at ⌝ }
 {
     if !branch::is_branch(nodes, n) {
         return false;
+    }
+    if star {
+        return util::stands(s, at, b'*');
     }
     begins_word(s, at)
 }
@@ -229,62 +271,6 @@ fn ends(s: &[u8], place: usize) -> bool
         Halt::Separator(_) => true,
         Halt::Unit(_) => true,
         Halt::Other => false,
-    }
-}
-
-// Behind its last word the header of a leaf ends, with `?` or without.
-fn close(s: &[u8], command: u16, kept: usize, place: usize, common: bool) -> Header
-    ensures { λ r. ⌜ r ≡ leafAnswer (now (s .entry)) command kept (seenAt (now (s .entry)) (stateOf place true common)) ⌝ }
-{
-    let query = util::stands(s, place, b'?');
-    let at = behind(s, place, b'?');
-    match ending(s, at) {
-        Halt::Text => Header::Found {
-            command,
-            query,
-            branch: kept,
-            stop: Stop::Text,
-            state: State {
-                place: at,
-                in_header: !query,
-                in_common: common,
-            },
-        },
-        Halt::Separator(next) => Header::Found {
-            command,
-            query,
-            branch: kept,
-            stop: Stop::Separator,
-            state: State {
-                place: next,
-                in_header: false,
-                in_common: common,
-            },
-        },
-        Halt::Unit(next) => Header::Found {
-            command,
-            query,
-            branch: kept,
-            stop: Stop::Unit,
-            state: State {
-                place: next,
-                in_header: true,
-                in_common: false,
-            },
-        },
-        Halt::Other => header::leaf(
-            s,
-            command,
-            kept,
-            ahead::look(
-                s,
-                State {
-                    place,
-                    in_header: true,
-                    in_common: common,
-                },
-            ),
-        ),
     }
 }
 

@@ -17,14 +17,8 @@ returns-3 c = search lead-laws
 returns-4 : tie.Need-returns-4
 returns-4 c = search lead-laws
 
-shared-slice-read-if5 : tie.Need-shared-slice-read-if5
-shared-slice-read-if5 c = search lead-laws
-
-common-requires : tie.Need-common-requires
-common-requires c κs = search lead-laws
-
-returns-5 : tie.Need-returns-5
-returns-5 c = search lead-laws
+stands-requires : tie.Need-stands-requires
+stands-requires c κs = search lead-laws
 
 start-of-requires : tie.Need-start-of-requires
 start-of-requires c κs = search lead-laws
@@ -35,8 +29,8 @@ behind-requires c κs = search lead-laws
 words-requires : tie.Need-words-requires
 words-requires c κs = search lead-laws
 
-returns-6 : tie.Need-returns-6
-returns-6 c = search lead-laws
+returns-5 : tie.Need-returns-5
+returns-5 c = search lead-laws
 
 pub lead-spec : {M : Type 1} → statement M
 lead-spec =
@@ -47,10 +41,8 @@ lead-spec =
     is-branch-requires
     returns-3
     returns-4
-    shared-slice-read-if5
-    common-requires
-    returns-5
+    stands-requires
     start-of-requires
     behind-requires
     words-requires
-    returns-6)
+    returns-5)

@@ -6,10 +6,10 @@ use Rattle.plain_header.proofs.words.Statement.{statement}
 use Rattle.plain_header.proofs.words.Tie as tie
 
 abbrev Inv-loop : tie.InvT-loop
-Inv-loop nodes names s start first at₀ place₀ at place = On nodes names s start first at place
+Inv-loop nodes names s branch star start first at₀ place₀ at place = On nodes names s star start first at place
 
 abbrev μ-loop : tie.MeasureT-loop
-μ-loop nodes names s start first at₀ place₀ at place = length nodes - at
+μ-loop nodes names s branch star start first at₀ place₀ at place = length nodes - at
 
 is-start-requires : tie.Need-is-start-requires Inv-loop μ-loop
 is-start-requires c κs = search place-laws
@@ -62,8 +62,14 @@ is-branch-requires c κs = search place-laws
 command-number-requires : tie.Need-command-number-requires Inv-loop μ-loop
 command-number-requires c κs = search place-laws
 
+keep-requires : tie.Need-keep-requires Inv-loop μ-loop
+keep-requires c κs = search place-laws
+
 returns-4 : tie.Need-returns-4 Inv-loop μ-loop
 returns-4 c = search word-laws
+
+returns-5 : tie.Need-returns-5 Inv-loop μ-loop
+returns-5 c = search word-laws
 
 goes-on-requires : tie.Need-goes-on-requires Inv-loop μ-loop
 goes-on-requires c κs = search place-laws
@@ -71,8 +77,8 @@ goes-on-requires c κs = search place-laws
 unsaid-requires : tie.Need-unsaid-requires Inv-loop μ-loop
 unsaid-requires c κs = search place-laws
 
-returns-5 : tie.Need-returns-5 Inv-loop μ-loop
-returns-5 c = search word-laws
+returns-6 : tie.Need-returns-6 Inv-loop μ-loop
+returns-6 c = search word-laws
 
 behind-requires : tie.Need-behind-requires Inv-loop μ-loop
 behind-requires c κs = search place-laws
@@ -106,10 +112,12 @@ words-spec =
     shared-slice-read-node
     is-branch-requires
     command-number-requires
+    keep-requires
     returns-4
+    returns-5
     goes-on-requires
     unsaid-requires
-    returns-5
+    returns-6
     behind-requires
     loop-less
     loop-again)

@@ -35,9 +35,13 @@ found-deeper (under x d z) =
     let u = v .1 in
     (v .0, omega (arith, y, u))
 
-pub leaf-inside : {t : List ℕ} {b k : ℕ} → Settles t b (pick.Child k) → k < length t
-leaf-inside (at-leaf d e) = deeper d .0
-leaf-inside (onward d e z) = leaf-inside z
+pub leaf-deeper : {t : List ℕ} {b k : ℕ} → Settles t b (pick.Child k) → (k < length t) × (length t - k < length t - b)
+leaf-deeper (at-leaf d e) = deeper d
+leaf-deeper (onward d e z) =
+    let y = deeper d .1 in
+    let v = leaf-deeper z in
+    let u = v .1 in
+    (v .0, omega (arith, y, u))
 
 module _ (t : List ℕ) (b k : ℕ) (p : Pick) (e : p ≡ pick.Child k) (x : Picks t b (unsaidIn t) p) where
   pub child-in′ : k < length t

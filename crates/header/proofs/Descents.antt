@@ -14,7 +14,7 @@ use Rattle.branch.specs.declared.Pick.{Pick}
 use Rattle.branch.specs.declared.Pick.the-variants as pick
 use Rattle.branch.specs.declared.Found.{Found}
 use Rattle.branch.specs.declared.Found.the-variants as found
-use Rattle.branch.proofs.Down.{picked, found-deeper, leaf-inside}
+use Rattle.branch.proofs.Down.{picked, found-deeper, leaf-deeper}
 use Rattle.token.specs.View.{partOf}
 use Rattle.token.specs.declared.View.{View}
 use Rattle.tokenizer.specs.declared.State.{State}
@@ -63,14 +63,23 @@ module _ {t names s : List ℕ} {h : ℕ} {seen : Seen} (e : turnOf s seen ≡ t
   settles m (at-leaf d l) = ended m e d (leaf l)
   settles m (onward d l z) = ended m e d (settles l z)
 
+  -- what is answered at that leaf is answered at the branch
+  pub onto : {n k : ℕ} {r : Header} → branch t n ≡ true → Settles t n (pick.Child k) → Reads t names s h k seen r → Reads t names s h n seen r
+  onto m (at-leaf d l) o = ended m e d o
+  onto m (onward d l z) o = ended m e d (onto l z o)
+
   pub ends : {n : ℕ} → branch t n ≡ true → Settles t n pick.None → Reads t names s h n seen undefined
   ends m (onward d l z) = ended m e d (ends l z)
   ends m (unsettled d) = nowhere m e d
 
 -- the places of the table
 
-pub leaf-in′ : (t : List ℕ) (n : ℕ) (p : Pick) → Settles t n p → (k : ℕ) → p ≡ pick.Child k → k < length t
-leaf-in′ t n p z k e = leaf-inside (rw e at z)
+module _ (t : List ℕ) (n : ℕ) (p : Pick) (z : Settles t n p) (k : ℕ) (e : p ≡ pick.Child k) where
+  pub leaf-in′ : k < length t
+  leaf-in′ = leaf-deeper (rw e at z) .0
+
+  pub leaf-less′ : length t - k < length t - n
+  leaf-less′ = leaf-deeper (rw e at z) .1
 
 module _ (t names v : List ℕ) (n : ℕ) (f : Found) (z : Finds t names v n f) (g k : ℕ) (e : f ≡ found.Child g k) where
   pub child-in′ : k < length t
@@ -79,7 +88,7 @@ module _ (t names v : List ℕ) (n : ℕ) (f : Found) (z : Finds t names v n f) 
   pub less′ : length t - k < length t - n
   less′ = found-deeper (rw e at z) .1
 
-pub ruleset place-laws = (needs, leaf-in′, child-in′, less′)
+pub ruleset place-laws = (needs, leaf-in′, leaf-less′, child-in′, less′)
 
 -- what is answered from a node on is answered from the start
 unfoldable pub Back : List ℕ → List ℕ → List ℕ → ℕ → Seen → ℕ → ℕ → Seen → Type 0
@@ -104,9 +113,9 @@ module _ (t names s : List ℕ) (start : ℕ) (first : Seen) (h n : ℕ) (seen :
       unfolding Back
       nowhere′ e = b _ (ends (sym ex ∙ y) (sym ec ∙ not-false c q) (rw e at z))
 
-      pub ended′ : (k : ℕ) → p ≡ pick.Child k → (m : ℕ) → m ≡ commandNumber (getD t k 0) → (r : Header) → r ≡ leafAnswer s m h seen → Reads t names s start start first r
+      pub ended′ : (k : ℕ) → p ≡ pick.Child k → Back t names s start first h k seen
       unfolding Back
-      ended′ k e m em r er = b r (rw (er, em) (settles (sym ex ∙ y) (sym ec ∙ not-false c q) (rw e at z)))
+      ended′ k e r o = b r (onto (sym ex ∙ y) (sym ec ∙ not-false c q) (rw e at z) o)
 
     module _ (w : View) (st : State) (y : x ≡ turn.Word w st) (v : List ℕ) (ev : v ≡ partOf s w) (f : Found) (z : Finds t names v n f) where
       pub unknown′ : f ≡ found.None → Reads t names s start start first undefined

@@ -94,7 +94,7 @@ fn descend(nodes: &[u64], names: &[u8], s: &[u8], start: usize, first: Seen) -> 
             Turn::Refused(e) => return Header::Refused(e),
             Turn::Stop => match branch::default_leaf(nodes, at) {
                 Pick::None => return Header::Refused(ErrorCode::UndefinedHeader),
-                Pick::Child(k) => return leaf(s, node::command_number(nodes[k]), holder, seen),
+                Pick::Child(k) => at = k,
             },
             Turn::Word { word, state } => {
                 match branch::find(nodes, names, at, token::part(s, word)) {

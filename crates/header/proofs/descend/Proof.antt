@@ -55,20 +55,11 @@ returns-3 c = search descent-laws
 enum-known-k : tie.Need-enum-known-k Inv-loop μ-loop
 enum-known-k c = search place-laws
 
-mul-command-number : tie.Need-mul-command-number Inv-loop μ-loop
-mul-command-number c = search place-laws
+loop-less : tie.Need-loop-less Inv-loop μ-loop
+loop-less c = search place-laws
 
-shared-slice-read-command-number : tie.Need-shared-slice-read-command-number Inv-loop μ-loop
-shared-slice-read-command-number c = search place-laws
-
-command-number-requires-2 : tie.Need-command-number-requires-2 Inv-loop μ-loop
-command-number-requires-2 c κs = search place-laws
-
-leaf-requires-2 : tie.Need-leaf-requires-2 Inv-loop μ-loop
-leaf-requires-2 c κs = search place-laws
-
-returns-4 : tie.Need-returns-4 Inv-loop μ-loop
-returns-4 c = search descent-laws
+loop-again : tie.Need-loop-again Inv-loop μ-loop
+loop-again c = (search descent-laws, search place-laws)
 
 enum-known-word : tie.Need-enum-known-word Inv-loop μ-loop
 enum-known-word c = search place-laws
@@ -82,8 +73,8 @@ find-requires c κs = search place-laws
 enum-told-3 : tie.Need-enum-told-3 Inv-loop μ-loop
 enum-told-3 c = search place-laws
 
-returns-5 : tie.Need-returns-5 Inv-loop μ-loop
-returns-5 c = search descent-laws
+returns-4 : tie.Need-returns-4 Inv-loop μ-loop
+returns-4 c = search descent-laws
 
 enum-known-h : tie.Need-enum-known-h Inv-loop μ-loop
 enum-known-h c = search place-laws
@@ -91,11 +82,11 @@ enum-known-h c = search place-laws
 look-requires : tie.Need-look-requires Inv-loop μ-loop
 look-requires c κs = search place-laws
 
-loop-less : tie.Need-loop-less Inv-loop μ-loop
-loop-less c = search place-laws
+loop-less-2 : tie.Need-loop-less-2 Inv-loop μ-loop
+loop-less-2 c = search place-laws
 
-loop-again : tie.Need-loop-again Inv-loop μ-loop
-loop-again c = (search descent-laws, search place-laws)
+loop-again-2 : tie.Need-loop-again-2 Inv-loop μ-loop
+loop-again-2 c = (search descent-laws, search place-laws)
 
 pub descend-spec : {M : Type 1} → statement M
 descend-spec =
@@ -118,17 +109,14 @@ descend-spec =
     enum-told-2
     returns-3
     enum-known-k
-    mul-command-number
-    shared-slice-read-command-number
-    command-number-requires-2
-    leaf-requires-2
-    returns-4
+    loop-less
+    loop-again
     enum-known-word
     part-requires
     find-requires
     enum-told-3
-    returns-5
+    returns-4
     enum-known-h
     look-requires
-    loop-less
-    loop-again)
+    loop-less-2
+    loop-again-2)

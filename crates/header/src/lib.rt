@@ -111,7 +111,7 @@ fn descend(nodes: &[u64], names: &[u8], s: &[u8], start: usize, first: Seen) -> 
 }
 
 // At a leaf the header ends, or it has no command.
-pub fn leaf(s: &[u8], command: u16, holder: usize, seen: Seen) -> Header
+fn leaf(s: &[u8], command: u16, holder: usize, seen: Seen) -> Header
     ensures { λ r. ⌜ r ≡ leafAnswer (now (s .entry)) command holder seen ⌝ }
 {
     let ahead = seen.ahead;

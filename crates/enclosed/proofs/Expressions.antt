@@ -2,11 +2,12 @@
 use Prim.Native.Nat.{ℕ, _+_, _≤_, _<_}
 use mathlib.Core.Path.{_≡_, sym, _∙_}
 use mathlib.Core.List.{List}
-use mathlib.Core.Bool.{false, and-true}
+use mathlib.Core.Bool.{true, false, and-true}
+use native.Mathlib.Omega.{arith}
 use lib.Dec.{leb}
 use lib.ListN.{length, getD}
 use borrow.Author.Needs.{needs}
-use borrow.Author.Tests.{lt-ltb, le-ltb, ne-eqb}
+use borrow.Author.Tests.{lt-ltb, le-ltb, le-leb, ne-eqb}
 use Rattle.error.specs.declared.ErrorCode.the-variants.{SuffixNotAllowed, InvalidExpression}
 use Rattle.kind.specs.Class.{isQuote, isAscii}
 use Rattle.util.specs.Run.{runEnd, standsAt}
@@ -41,6 +42,9 @@ module _ (b : ℕ) where
   unfolding inExpression isQuote isAscii
   ascii′ d q c o p = rw (ne-eqb b 34 d, ne-eqb b 39 q, ne-eqb b 59 c, ne-eqb b 40 o, ne-eqb b 41 p) (sym (and-true (leb b 127)))
 
+  pub between′ : 42 ≤ b → b ≤ 58 → true ≡ inExpression b
+  between′ l h = sym (le-leb b 127 (omega arith)) ∙ ascii′ (λ e. omega arith) (λ e. omega arith) (λ e. omega arith) (λ e. omega arith) (λ e. omega arith)
+
 module _ (s : List ℕ) (at end : ℕ) (e : end ≡ runEnd inExpression s at) where
   pub unclosed′ : length s ≤ end → refused InvalidExpression ≡ expressionData s at
   unfolding expressionData bracketed standsAt
@@ -55,4 +59,4 @@ module _ (s : List ℕ) (at end : ℕ) (e : end ≡ runEnd inExpression s at) wh
     unfolding expressionData bracketed standsAt
     closed′ f r er = er ∙ rw (← e, lt-ltb end (length s) h, f)
 
-pub ruleset laws = (needs, double-quote′, single-quote′, semicolon′, opening′, closing′, ascii′, unclosed′, foreign′, closed′)
+pub ruleset laws = (needs, between′, double-quote′, single-quote′, semicolon′, opening′, closing′, ascii′, unclosed′, foreign′, closed′)

@@ -89,6 +89,11 @@ fn expression_end(s: &[u8], at: usize) -> usize
 fn in_expression(b: u8) -> bool
     ensures { λ r. ⌜ r ≡ inExpression b ⌝ }
 {
+    if b'*' <= b {
+        if b <= b':' {
+            return true;
+        }
+    }
     if b == b'"' {
         return false;
     }

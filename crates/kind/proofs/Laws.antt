@@ -89,4 +89,7 @@ module _ (b : ℕ) where
         let e : 9 + (b - 9) ≡ b = omega arith in
         rw e at (agrees (λ x. not (eqb (9 + x) 11)) (λ x. isWhiteSpace (9 + x)) 5 (b - 9) tt (omega arith))
 
-pub ruleset laws = (needs, white-below′, white-above′, white-inside′, capital-below′, capital-inside′, small-below′, small-inside′, digit-below′, digit-inside′, letter-capital′, letter-other′, mnemonic-letter′, mnemonic-digit′, mnemonic-other′, plus′, no-plus′, space′)
+  pub white-beyond′ : 32 < b → false ≡ isWhiteSpace b
+  white-beyond′ k = white-above′ (λ e. omega arith) (omega arith)
+
+pub ruleset laws = (needs, white-beyond′, white-below′, white-above′, white-inside′, capital-below′, capital-inside′, small-below′, small-inside′, digit-below′, digit-inside′, letter-capital′, letter-other′, mnemonic-letter′, mnemonic-digit′, mnemonic-other′, plus′, no-plus′, space′)

@@ -56,6 +56,9 @@ pub fn kind(b: u8) -> u8
 pub fn is_white_space(b: u8) -> bool
     ensures { λ r. ⌜ r ≡ isWhiteSpace b ⌝ }
 {
+    if b' ' < b {
+        return false;
+    }
     if b == b' ' {
         return true;
     }

@@ -20,5 +20,8 @@ returns-5 c = search laws
 returns-6 : tie.Need-returns-6
 returns-6 c = search laws
 
+returns-7 : tie.Need-returns-7
+returns-7 c = search laws
+
 pub in-expression-spec : {M : Type 1} → statement M
-in-expression-spec = tie.close (tie.spec returns returns-2 returns-3 returns-4 returns-5 returns-6)
+in-expression-spec = tie.close (tie.spec returns returns-2 returns-3 returns-4 returns-5 returns-6 returns-7)

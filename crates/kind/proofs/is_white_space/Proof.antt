@@ -14,5 +14,8 @@ returns-3 c = search laws
 returns-4 : tie.Need-returns-4
 returns-4 c = search laws
 
+returns-5 : tie.Need-returns-5
+returns-5 c = search laws
+
 pub is-white-space-spec : {M : Type 1} → statement M
-is-white-space-spec = tie.close (tie.spec returns returns-2 returns-3 returns-4)
+is-white-space-spec = tie.close (tie.spec returns returns-2 returns-3 returns-4 returns-5)

@@ -2,10 +2,11 @@
 use Prim.Native.Nat.{ℕ, _-_, _<_}
 use mathlib.Core.Path.{_≡_, sym, subst, _∙_}
 use mathlib.Core.List.{List}
-use mathlib.Core.Bool.{Bool, true, false}
+use mathlib.Core.Bool.{Bool, true, false, not}
 use native.Mathlib.Omega.{arith}
 use lib.ListN.{length, getD}
 use borrow.Author.Needs.{needs}
+use borrow.Author.Tests.{not-true, not-false}
 use Rattle.node.specs.Word.{isBranch}
 use Rattle.branch.specs.Children.{Below, spokenBy, unsaidIn, Picks, first-one, not-one}
 use Rattle.branch.specs.Ways.{Finds, here, under, unfound, Settles, at-leaf, onward, unsettled}
@@ -69,15 +70,22 @@ pub ruleset find-laws = (needs, here′, unfound′, under′)
 
 -- the leaf that is reached unsaid
 
-module _ (t : List ℕ) (b : ℕ) (p : Pick) (x : Picks t b (unsaidIn t) p) where
+-- what the loop keeps: what is reached from the branch `at` is reached from b
+abbrev pub Reaches : List ℕ → ℕ → ℕ → Type 0
+Reaches t b at = (r : Pick) → Settles t at r → Settles t b r
+
+pub reaches-begin′ : (t : List ℕ) (b : ℕ) → Reaches t b b
+reaches-begin′ t b r z = z
+
+module _ (t : List ℕ) (b at : ℕ) (inv : Reaches t b at) (p : Pick) (x : Picks t at (unsaidIn t) p) where
   pub unsettled′ : p ≡ pick.None → Settles t b pick.None
-  unsettled′ e = unsettled (rw e at x)
+  unsettled′ e = inv pick.None (unsettled (rw e at x))
 
   module _ (k : ℕ) (e : p ≡ pick.Child k) (c : Bool) (f : c ≡ isBranch (getD t k 0)) where
-    pub at-leaf′ : c ≡ false → Settles t b (pick.Child k)
-    at-leaf′ g = at-leaf (rw e at x) (sym f ∙ g)
+    pub at-leaf′ : not c ≡ true → Settles t b (pick.Child k)
+    at-leaf′ g = inv (pick.Child k) (at-leaf (rw e at x) (sym f ∙ not-true c g))
 
-    pub onward′ : c ≡ true → (r : Pick) → Settles t k r → Settles t b r
-    onward′ g r z = onward (rw e at x) (sym f ∙ g) z
+    pub onward′ : not c ≡ false → Reaches t b k
+    onward′ g r z = inv r (onward (rw e at x) (sym f ∙ not-false c g) z)
 
-pub ruleset settle-laws = (needs, child-in′, unsettled′, at-leaf′, onward′)
+pub ruleset settle-laws = (needs, child-in′, reaches-begin′, unsettled′, at-leaf′, onward′)

@@ -10,7 +10,6 @@ use borrow.Author.Tests.{not-true, not-false}
 use Rattle.kind.proofs.Tests.{clash}
 use Rattle.util.proofs.Before.{Before, none-yet, one-more}
 use Rattle.mnemonic.specs.Mnemonic.{matches}
-use Rattle.mnemonic.proofs.Match.{unlike′}
 use Rattle.node.specs.Word.{isBranch, isDefault, firstChild, childCount, nameIn}
 use Rattle.node.specs.Tree.{branch}
 use Rattle.node.proofs.Laws.{block-fits′, past-table}
@@ -24,10 +23,6 @@ pub outside′ : (t : List ℕ) (b : ℕ) → length t ≤ b → false ≡ branc
 outside′ t b h = sym (past-table t b h)
 
 pub ruleset branch-laws = (needs, outside′)
-
--- whether a word spells a name
-
-pub ruleset spells-laws = (needs, unlike′)
 
 -- where the children stand
 

@@ -1,7 +1,6 @@
 // The branches of a table and their children: the one that a word spells, and the default one. `exec` of tree/mod.rs of the original
 // looks for these.
 ghost use mathlib.Core.Path.{_≡_};
-ghost use Rattle.mnemonic.specs.Mnemonic.{matches};
 ghost use Rattle.node.specs.Tree.{branch};
 ghost use Rattle.branch.specs.Children.{spokenBy, unsaidIn, Picks};
 ghost use Rattle.branch.specs.Ways.{Finds, Settles};
@@ -44,7 +43,7 @@ pub fn spoken_child(nodes: &[u64], names: &[u8], b: usize, word: &[u8]) -> Pick
     let to = block.to;
     let mut k = first;
     while k < to {
-        if spells(node::name(names, nodes[k]), word) {
+        if mnemonic::mnemonic_match(node::name(names, nodes[k]), word) {
             return Pick::Child(k);
         }
         k += 1;
@@ -88,13 +87,16 @@ pub fn find(nodes: &[u64], names: &[u8], b: usize, word: &[u8]) -> Found
 pub fn default_leaf(nodes: &[u64], b: usize) -> Pick
     ensures { λ r. ⌜ Settles (now (nodes .entry)) b r ⌝ }
 {
-    match default_child(nodes, b) {
-        Pick::None => Pick::None,
-        Pick::Child(d) => {
-            if node::is_branch(nodes[d]) {
-                return default_leaf(nodes, d);
+    let mut at = b;
+    loop {
+        match default_child(nodes, at) {
+            Pick::None => return Pick::None,
+            Pick::Child(d) => {
+                if !node::is_branch(nodes[d]) {
+                    return Pick::Child(d);
+                }
+                at = d;
             }
-            Pick::Child(d)
         }
     }
 }
@@ -122,14 +124,4 @@ fn children(nodes: &[u64], b: usize) -> Block
         from: first,
         to: end,
     }
-}
-
-// Whether a word spells a name. A name that begins otherwise is passed over without the whole match.
-fn spells(name: &[u8], word: &[u8]) -> bool
-    ensures { λ r. ⌜ r ≡ matches (now (name .entry)) (now (word .entry)) ⌝ }
-{
-    if mnemonic::begins_otherwise(name, word) {
-        return false;
-    }
-    mnemonic::mnemonic_match(name, word)
 }

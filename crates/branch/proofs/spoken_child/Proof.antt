@@ -25,8 +25,8 @@ shared-slice-read-name c = search spoken-laws
 name-requires : tie.Need-name-requires Inv-loop μ-loop
 name-requires c κs = search spoken-laws
 
-spells-requires : tie.Need-spells-requires Inv-loop μ-loop
-spells-requires c κs = search spoken-laws
+mnemonic-match-requires : tie.Need-mnemonic-match-requires Inv-loop μ-loop
+mnemonic-match-requires c κs = search spoken-laws
 
 returns : tie.Need-returns Inv-loop μ-loop
 returns c = search spoken-laws
@@ -54,7 +54,7 @@ spoken-child-spec =
     mul-name
     shared-slice-read-name
     name-requires
-    spells-requires
+    mnemonic-match-requires
     returns
     add-k
     loop-less

@@ -57,7 +57,7 @@ same-remainder b = go (isCapital b)
     go true = omega arith
     go false = refl
 
-apart : (c d : ℕ) → not (eqb (c % 32) (d % 32)) ≡ true → eitherCase c d ≡ false
+pub apart : (c d : ℕ) → not (eqb (c % 32) (d % 32)) ≡ true → eitherCase c d ≡ false
 unfolding eitherCase
 apart c d h =
     ne-eqb (folded c) (folded d)

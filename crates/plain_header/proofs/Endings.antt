@@ -130,15 +130,6 @@ module _ (s : List ℕ) (p : ℕ) (common : Bool) where
 
 -- where a header ends at a branch
 
-pub halt-told′ : (r : Bool) (x y : Halt) → x ≡ y → r ≡ isHalt y → r ≡ isHalt x
-halt-told′ r x y e h = h ∙ sym (ap isHalt e)
-
-pub ends-is′ : (s : List ℕ) (p at : ℕ) → at ≡ behindByte 63 s p → (x : Halt) → x ≡ haltOf s at → (r : Bool) → r ≡ isHalt x → r ≡ endsAt s p
-unfolding endsAt
-ends-is′ s p at ea x ex r er = rw (← ea, ← ex) er
-
-pub ruleset halts = (needs, halt-told′, ends-is′)
-
 abbrev Stops : Halt → List ℕ → Seen → Type 0
 Stops halt.Other s y = Unit {0}
 Stops halt.Text s y = turnOf s y ≡ turn.Stop

@@ -1,8 +1,8 @@
 -- Laws of the places of a header, as the code meets them.
 use Prim.Native.Nat.{ℕ, _+_, _≤_, _<_}
-use mathlib.Core.Path.{_≡_, refl, sym, _∙_}
+use mathlib.Core.Path.{_≡_, refl, sym, ap, _∙_}
 use mathlib.Core.List.{List}
-use mathlib.Core.Bool.{Bool, true, false}
+use mathlib.Core.Bool.{Bool, true, false, cond}
 use lib.Dec.{eqb, ltb}
 use lib.ListN.{length, getD}
 use borrow.Author.Needs.{needs}
@@ -10,7 +10,8 @@ use borrow.Author.Tests.{le-leb, lt-leb, lt-ltb, le-ltb, eq-eqb, ne-eqb, ltb-tru
 use Rattle.kind.specs.Class.{isWhiteSpace, isLetter}
 use Rattle.kind.proofs.Tests.{and-left, and-right}
 use Rattle.util.specs.Run.{runEnd, standsAt}
-use Rattle.plain_header.specs.Parts.{startOf, behindByte, beginsWord, goesOn, haltOf}
+use Rattle.util.proofs.Runs.{run-more}
+use Rattle.plain_header.specs.Parts.{startOf, behindByte, beginsWord, goesOn, haltOf, isHalt, endsAt}
 use Rattle.plain_header.specs.declared.Halt.{Halt}
 use Rattle.plain_header.specs.declared.Halt.the-variants as halt
 
@@ -89,9 +90,9 @@ module _ (s : List ℕ) (at : ℕ) where
   text-end′ h = rw (le-leb (length s) at h)
 
   module _ (h : at < length s) where
-    pub space-there′ : getD s at 0 ≡ 32 → (n : ℕ) → n ≡ runEnd isWhiteSpace s at → halt.Separator n ≡ haltOf s at
-    unfolding haltOf
-    space-there′ e n en = rw (lt-leb (length s) at h, e, en)
+    pub space-there′ : getD s at 0 ≡ 32 → (n : ℕ) → n ≡ runEnd isWhiteSpace s (at + 1) → halt.Separator n ≡ haltOf s at
+    unfolding haltOf isWhiteSpace
+    space-there′ e n en = rw (lt-leb (length s) at h, e, en) (ap halt.Separator (sym (run-more isWhiteSpace s at h (rw e))))
 
     pub semicolon-there′ : getD s at 0 ≡ 59 → (n : ℕ) → n ≡ runEnd isWhiteSpace s (at + 1) → halt.Unit n ≡ haltOf s at
     unfolding haltOf
@@ -100,6 +101,26 @@ module _ (s : List ℕ) (at : ℕ) where
     pub other-there′ : (getD s at 0 ≡ 32 → ⊥) → (getD s at 0 ≡ 59 → ⊥) → halt.Other ≡ haltOf s at
     unfolding haltOf
     other-there′ e f = rw (lt-leb (length s) at h, ne-eqb (getD s at 0) 32 e, ne-eqb (getD s at 0) 59 f)
+
+module _ (s : List ℕ) (p at : ℕ) (e : at ≡ behindByte 63 s p) where
+  pub ends-text′ : length s ≤ at → true ≡ endsAt s p
+  unfolding endsAt haltOf
+  ends-text′ h = rw (← e, le-leb (length s) at h)
+
+  module _ (h : at < length s) where
+    pub ends-space′ : getD s at 0 ≡ 32 → true ≡ endsAt s p
+    unfolding endsAt haltOf
+    ends-space′ k = rw (← e, lt-leb (length s) at h, k)
+
+    pub ends-unit′ : (getD s at 0 ≡ 32 → ⊥) → eqb (getD s at 0) 59 ≡ endsAt s p
+    unfolding endsAt haltOf
+    ends-unit′ k = rw (← e, lt-leb (length s) at h, ne-eqb (getD s at 0) 32 k) (go (eqb (getD s at 0) 59))
+      where
+        go : (b : Bool) → b ≡ isHalt (cond b (halt.Unit (runEnd isWhiteSpace s (at + 1))) halt.Other)
+        go true = refl
+        go false = refl
+
+pub ruleset ended = (needs, ends-text′, ends-space′, ends-unit′)
 
 pub ruleset words = (needs, word-past′, word-there′, colon-past′, no-colon′, colon-word′)
 

@@ -15,6 +15,7 @@ use Rattle.util.specs.Run.{runEnd, standsAt}
 use Rattle.node.specs.Word.{isBranch, commandNumber}
 use Rattle.node.specs.Tree.{branch}
 use Rattle.branch.specs.Ways.{Finds, Settles}
+use Rattle.branch.proofs.Down.{found-deeper}
 use Rattle.branch.specs.declared.Pick.{Pick}
 use Rattle.branch.specs.declared.Pick.the-variants as pick
 use Rattle.branch.specs.declared.Found.{Found}
@@ -43,7 +44,10 @@ use Rattle.header.specs.declared.Turn.the-variants as turn
 use Rattle.header.specs.declared.Header.{Header}
 use Rattle.header.specs.declared.Header.the-variants as header
 use Rattle.header.proofs.Descents.{finds, loses, settles, ends}
-use Rattle.plain_header.specs.Parts.{behindByte, beginsWord, starts, isStart, keptBy, goesOn, endsAt, aheadAt, Goes, goes-to-leaf, goes-to-refusal, goes-nowhere, Settled, settled-leaf, settled-none, not-settled}
+use Rattle.plain_header.specs.Parts.{behindByte, beginsWord, starts, isStart, keptBy, goesOn, endsAt, aheadAt, Goes, goes-to-leaf, goes-to-refusal, goes-nowhere, Undefined, undefined-word, no-word, Settled, settled-leaf, settled-none, not-settled}
+use Rattle.plain_header.specs.Letters.{wordAt, Hears, hears-child, hears-none}
+use Rattle.plain_header.specs.declared.word.Heard.{Heard}
+use Rattle.plain_header.specs.declared.word.Heard.the-variants as heard
 use Rattle.plain_header.specs.declared.Way.{Way}
 use Rattle.plain_header.specs.declared.Way.the-variants as way
 use Rattle.plain_header.proofs.Places.{inside, there}
@@ -111,6 +115,16 @@ mnemonic-read s p t next e = go (leb (runEnd inMnemonic s (starEnd s p) - p) 12)
     go : (b : Bool) → cond b (token (ProgramMnemonic (viewOf p (runEnd inMnemonic s (starEnd s p)))) (runEnd inMnemonic s (starEnd s p))) (refused refusal.ProgramMnemonicTooLong) ≡ read.Token t next
         → ProgramMnemonic (viewIn t) ≡ t
     go true f = rw (← ap tokenIn f)
+    go false f = absurd (false≢true (ap isToken f))
+
+-- and it is the word at the place
+pub word-read : (s : List ℕ) (p : ℕ) (t : Token) (next : ℕ) → mnemonic s p ≡ read.Token t next → wordAt s p ≡ partOf s (viewIn t)
+unfolding mnemonic wordAt
+word-read s p t next e = go (leb (runEnd inMnemonic s (starEnd s p) - p) 12) e
+  where
+    go : (b : Bool) → cond b (token (ProgramMnemonic (viewOf p (runEnd inMnemonic s (starEnd s p)))) (runEnd inMnemonic s (starEnd s p))) (refused refusal.ProgramMnemonicTooLong) ≡ read.Token t next
+        → partOf s (viewOf p (runEnd inMnemonic s (starEnd s p))) ≡ partOf s (viewIn t)
+    go true f = rw (← ap tokenIn f) refl
     go false f = absurd (false≢true (ap isToken f))
 
 -- a letter, by which a word begins
@@ -200,46 +214,91 @@ module _ (t names s : List ℕ) (b : ℕ) (star : Bool) (start first : ℕ) wher
         back = λ r k. k start (aheadAt s first false) refl;
       }
 
-  module _ (n p : ℕ) (on : On t names s star start first n p) (rd : Read) (er : rd ≡ mnemonic s p) where
-    pub too-long′ : (e : ErrorCode) → rd ≡ read.Refused e → Goes t names s b star start first (way.Refused e)
-    too-long′ e q = goes-to-refusal (on .begun) (on .back _ (λ h x ex. headers.refused (on .held) (ex ∙ turn-refused s p star (on .word) rd er e q)))
+  module _ (n p : ℕ) (on : On t names s star start first n p) where
+    pub on-held′ : branch t n ≡ true
+    on-held′ = on .held
 
-    module _ (k : Token) (next : ℕ) (ek : rd ≡ read.Token k next) (v : View) (ev : v ≡ viewIn k) (w : List ℕ) (ew : w ≡ partOf s v) (f : Found) (z : Finds t names w n f) where
-      pub unknown′ : f ≡ found.None → Goes t names s b star start first (way.Refused refusal.UndefinedHeader)
-      unknown′ e = goes-to-refusal (on .begun) (on .back _ (λ h x ex. loses (on .held) (ex ∙ turn-word s p star (on .word) rd er k next ek) (rw (e, ew, ev) at z)))
+    pub on-word′ : starts star s p ≡ true
+    on-word′ = on .word
 
-      module _ (g m : ℕ) (ef : f ≡ found.Child g m) (c : Bool) (ec : c ≡ isBranch (getD t m 0)) where
-        onward : (r : Header) → Reads t names s g m (aheadAt s next star) r → Reads t names s start start (aheadAt s first false) r
-        onward r o = on .back r (λ h x ex. finds (on .held) (ex ∙ turn-word s p star (on .word) rd er k next ek) (rw (ef, ew, ev) at z) o)
+    too-long : (e : ErrorCode) → mnemonic s p ≡ read.Refused e → Goes t names s b star start first (way.Refused e)
+    too-long e q = goes-to-refusal (on .begun) (on .back _ (λ h x ex. headers.refused (on .held) (ex ∙ turn-refused s p star (on .word) (mnemonic s p) refl e q)))
 
-        pub leaf-found′ : not c ≡ true → (d : ℕ) → d ≡ commandNumber (getD t m 0) → (a : ℕ) → a ≡ keptBy star b g → Goes t names s b star start first (way.Leaf d a next star)
-        leaf-found′ q d ed a ea = rw ea (goes-to-leaf g (on .begun) (onward (leafAnswer s d g (aheadAt s next star)) (rw ed (leaf (sym ec ∙ not-true c q)))))
+    unknown : (k : Token) (next : ℕ) → mnemonic s p ≡ read.Token k next → Finds t names (wordAt s p) n found.None → Goes t names s b star start first (way.Refused refusal.UndefinedHeader)
+    unknown k next ek z =
+        goes-to-refusal (on .begun)
+        (on .back _ (λ h x ex. loses (on .held) (ex ∙ turn-word s p star (on .word) (mnemonic s p) refl k next ek) (rw (word-read s p k next ek) at z)))
 
-        module _ (q : not c ≡ false) (l : star ≡ false) where
-          on-plain : (r : Header) → Reads t names s g m (aheadAt s next false) r → Reads t names s start start (aheadAt s first false) r
-          on-plain r o = onward r (rw (← l) at o)
+    module _ (x : Heard) (z : Hears t names s n p x) where
+      pub undefined′ : x ≡ heard.None → (y : Way) → Undefined s p y → Goes t names s b star start first y
+      undefined′ e y u = go y u (rw e at z)
+        where
+          go : (y : Way) → Undefined s p y → Hears t names s n p heard.None → Goes t names s b star start first y
+          go _ (undefined-word {k} {next} ek) (hears-none f) = unknown k next ek f
+          go _ (no-word {e} ek) (hears-none f) = too-long e ek
 
-          settled : (x : Way) → Settled t s g m next x → Goes t names s b star start first x
-          unfolding keptBy
-          settled _ (settled-leaf e y) = rw l (goes-to-leaf g (rw l at (on .begun)) (on-plain _ (settles e (sym ec ∙ not-false c q) y)))
-          settled _ (settled-none e y) = goes-to-refusal (on .begun) (on-plain _ (ends e (sym ec ∙ not-false c q) y))
-          settled _ not-settled = goes-nowhere
+      module _ (g m next : ℕ) (ef : x ≡ heard.Child g m next) where
+        read-so : mnemonic s p ≡ read.Token (ProgramMnemonic (viewOf p next)) next
+        read-so = go (rw ef at z)
+          where
+            go : Hears t names s n p (heard.Child g m next) → mnemonic s p ≡ token (ProgramMnemonic (viewOf p next)) next
+            go (hears-child e f) = e
 
-          pub settled′ : (x : Way) → Settled t s g m next x → Goes t names s b star start first x
-          settled′ x y = settled x y
+        spelled : Finds t names (partOf s (viewOf p next)) n (found.Child g m)
+        spelled = rw (word-read s p (ProgramMnemonic (viewOf p next)) next read-so) at (go (rw ef at z))
+          where
+            go : Hears t names s n p (heard.Child g m next) → Finds t names (wordAt s p) n (found.Child g m)
+            go (hears-child e f) = f
 
-          pub on-again′ : (d : Bool) → d ≡ goesOn s next → not d ≡ false → (p2 : ℕ) → p2 ≡ behindByte 58 s next → On t names s star start first m p2
-          unfolding goesOn behindByte
-          on-again′ d ed qd p2 e2 =
-              let goes : goesOn s next ≡ true = sym ed ∙ not-false d qd in
-              let stands : standsAt 58 s next ≡ true = and-left (standsAt 58 s next) (beginsWord s (next + 1)) goes in
-              let there : p2 ≡ next + 1 = e2 ∙ rw stands in
-              rw there
-              (record {
-                held = sym ec ∙ not-false c q;
-                word = rw l (and-right (standsAt 58 s next) (beginsWord s (next + 1)) goes);
-                begun = on .begun;
-                back = λ r k2. on-plain r (k2 g (aheadAt s next false) (colon-turn s next goes));
-              })
+        pub heard-in′ : m < length t
+        heard-in′ = found-deeper spelled .0
 
-pub ruleset word-laws = (needs, nowhere′, on-first′, too-long′, unknown′, leaf-found′, settled′, on-again′)
+        pub heard-nearer′ : length t - m < length t - n
+        heard-nearer′ = found-deeper spelled .1
+
+        module _ (c : Bool) (ec : c ≡ isBranch (getD t m 0)) where
+          onward : (r : Header) → Reads t names s g m (aheadAt s next star) r → Reads t names s start start (aheadAt s first false) r
+          onward r o = on .back r (λ h x ex. finds (on .held) (ex ∙ turn-word s p star (on .word) (mnemonic s p) refl (ProgramMnemonic (viewOf p next)) next read-so) spelled o)
+
+          pub leaf-found′ : not c ≡ true → (d : ℕ) → d ≡ commandNumber (getD t m 0) → (a : ℕ) → a ≡ keptBy star b g → Goes t names s b star start first (way.Leaf d a next star)
+          leaf-found′ q d ed a ea = rw ea (goes-to-leaf g (on .begun) (onward (leafAnswer s d g (aheadAt s next star)) (rw ed (leaf (sym ec ∙ not-true c q)))))
+
+          module _ (q : not c ≡ false) (l : star ≡ false) where
+            on-plain : (r : Header) → Reads t names s g m (aheadAt s next false) r → Reads t names s start start (aheadAt s first false) r
+            on-plain r o = onward r (rw (← l) at o)
+
+            settled : (x : Way) → Settled t s g m next x → Goes t names s b star start first x
+            unfolding keptBy
+            settled _ (settled-leaf e y) = rw l (goes-to-leaf g (rw l at (on .begun)) (on-plain _ (settles e (sym ec ∙ not-false c q) y)))
+            settled _ (settled-none e y) = goes-to-refusal (on .begun) (on-plain _ (ends e (sym ec ∙ not-false c q) y))
+            settled _ not-settled = goes-nowhere
+
+            pub settled′ : (x : Way) → Settled t s g m next x → Goes t names s b star start first x
+            settled′ x y = settled x y
+
+            pub on-again′ : (d : Bool) → d ≡ goesOn s next → not d ≡ false → (p2 : ℕ) → p2 ≡ behindByte 58 s next → On t names s star start first m p2
+            unfolding goesOn behindByte
+            on-again′ d ed qd p2 e2 =
+                let goes : goesOn s next ≡ true = sym ed ∙ not-false d qd in
+                let stands : standsAt 58 s next ≡ true = and-left (standsAt 58 s next) (beginsWord s (next + 1)) goes in
+                let there : p2 ≡ next + 1 = e2 ∙ rw stands in
+                rw there
+                (record {
+                  held = sym ec ∙ not-false c q;
+                  word = rw l (and-right (standsAt 58 s next) (beginsWord s (next + 1)) goes);
+                  begun = on .begun;
+                  back = λ r k2. on-plain r (k2 g (aheadAt s next false) (colon-turn s next goes));
+                })
+
+pub ruleset word-laws = (needs, nowhere′, on-first′, on-held′, on-word′, undefined′, heard-in′, heard-nearer′, leaf-found′, settled′, on-again′)
+
+-- a word that spells nothing
+
+module _ (s : List ℕ) (p : ℕ) (rd : Read) (er : rd ≡ mnemonic s p) where
+  pub no-word′ : (e : ErrorCode) → rd ≡ read.Refused e → Undefined s p (way.Refused e)
+  no-word′ e q = no-word (sym er ∙ q)
+
+  pub undefined-word′ : (k : Token) (next : ℕ) → rd ≡ read.Token k next → Undefined s p (way.Refused refusal.UndefinedHeader)
+  undefined-word′ k next q = undefined-word (sym er ∙ q)
+
+pub ruleset undefined-laws = (needs, no-word′, undefined-word′)

@@ -32,6 +32,7 @@ use Rattle.item.specs.declared.Read.the-variants as read
 use Rattle.tokenizer.specs.Step.{stateOf}
 use Rattle.tokenizer.specs.declared.State.{State}
 use Rattle.ahead.specs.Seen.{tokenAhead, seenWith, seenAt}
+use Rattle.ahead.specs.declared.Stop.{Stop}
 use Rattle.ahead.specs.declared.Stop.the-variants as stop
 use Rattle.ahead.specs.declared.Ahead.{Ahead}
 use Rattle.ahead.specs.declared.Ahead.the-variants as ahead
@@ -45,7 +46,9 @@ use Rattle.header.specs.declared.Header.{Header}
 use Rattle.header.specs.declared.Header.the-variants as header
 use Rattle.header.proofs.Descents.{finds, loses}
 use Rattle.header.proofs.Once.{one-reading}
-use Rattle.plain_header.specs.Parts.{startOf, behindByte, beginsWord, starts, isStart, keptBy, haltOf, aheadAt, Leads, to-leaf, to-refusal, no-way, Goes, goes-to-leaf, goes-to-refusal, goes-nowhere}
+use Rattle.plain_header.specs.Parts.{startOf, behindByte, beginsWord, starts, isStart, keptBy, haltOf, aheadAt, Leads, to-leaf, to-refusal, no-way, Goes, goes-to-leaf, goes-to-refusal, goes-nowhere, Plainly, plainly-found, plainly-refused, not-plain}
+use Rattle.plain_header.specs.declared.Outcome.{Outcome}
+use Rattle.plain_header.specs.declared.Outcome.the-variants as outcome
 use Rattle.plain_header.specs.declared.Way.{Way}
 use Rattle.plain_header.specs.declared.Way.the-variants as way
 use Rattle.plain_header.specs.declared.Halt.{Halt}
@@ -127,7 +130,7 @@ module _ (s : List ℕ) (p : ℕ) (w : standsAt 42 s p ≡ true) where
       go zero z = absurd (omega (arith, z))
       go (suc n) z = star-first n p s w
 
-  star-end : starEnd s p ≡ p + 1
+  pub star-end : starEnd s p ≡ p + 1
   unfolding starEnd
   star-end = rw w
 
@@ -232,20 +235,14 @@ module _ (t names s : List ℕ) (b p : ℕ) (held : branch t b ≡ true) where
   worded x false true e f g = starred x (rw (e, f) at g)
   worded x false false e f g = branched x (rw (e, f) at g)
 
-module _ (t names s : List ℕ) (b : ℕ) (st : State) where
-  pub no-way′ : Leads t names s b st way.Other
+module _ (t names s : List ℕ) (b p : ℕ) where
+  pub no-way′ : Leads t names s b (stateOf p true false) way.Other
   no-way′ = no-way
 
-  module _ (qh : not (st .in_header) ≡ false) (qc : st .in_common ≡ false) (c : Bool) (ec : c ≡ isBranch (getD t b 0)) (q : not c ≡ false) where
-    same : stateOf (st .place) true false ≡ st
-    same = ap (λ h. stateOf (st .place) h false) (sym (not-false (st .in_header) qh)) ∙ ap (λ k. stateOf (st .place) (st .in_header) k) (sym qc)
-
-    pub word-way′ : (d : Bool) → d ≡ standsAt 42 s (st .place) → (n : ℕ) → n ≡ startOf s (st .place) b → (m : ℕ) → m ≡ behindByte 58 s (st .place) → (x : Way)
-        → Goes t names s b d n m x → Leads t names s b st x
-    word-way′ d ed n en m em x g =
-        let p = st .place in
-        rw same
-        at (worded t names s b p (sym ec ∙ not-false c q) x (standsAt 58 s p) (standsAt 42 s p) refl refl (rw (ed, en, em) at g))
+  pub word-way′ : (c : Bool) → c ≡ isBranch (getD t b 0) → not c ≡ false → (d : Bool) → d ≡ standsAt 42 s p → (n : ℕ) → n ≡ startOf s p b → (m : ℕ) → m ≡ behindByte 58 s p → (x : Way)
+      → Goes t names s b d n m x → Leads t names s b (stateOf p true false) x
+  word-way′ c ec q d ed n en m em x g =
+      worded t names s b p (sym ec ∙ not-false c q) x (standsAt 58 s p) (standsAt 42 s p) refl refl (rw (ed, en, em) at g)
 
 pub ruleset lead-laws = (needs, no-way′, word-way′)
 
@@ -258,24 +255,59 @@ module _ {t names s : List ℕ} {b : ℕ} {st : State} where
   refusal-led : {e : ErrorCode} → Leads t names s b st (way.Refused e) → Begins t names s b (seenAt s st) (header.Refused e)
   refusal-led (to-refusal o) = o
 
-module _ (t names s : List ℕ) (b : ℕ) (st : State) (x : Way) (o : Leads t names s b st x) where
-  pub read-refused′ : (e : ErrorCode) → x ≡ way.Refused e → Begins t names s b (seenAt s st) (header.Refused e)
-  read-refused′ e q = refusal-led (rw q at o)
+module _ (t names s : List ℕ) (b : ℕ) (st : State) where
+  pub not-plain′ : Plainly t names s b st outcome.Other
+  not-plain′ = not-plain
 
-  module _ (c kept p : ℕ) (m : Bool) (e : x ≡ way.Leaf c kept p m) (q : Bool) (eq : q ≡ standsAt 63 s p) (at : ℕ) (ea : at ≡ behindByte 63 s p) (y : Halt) (ey : y ≡ haltOf s at) where
-    led : Begins t names s b (seenAt s st) (leafAnswer s c kept (aheadAt s p m))
-    led = leaf-led (rw e at o)
+  module _ (x : Way) (o : Leads t names s b st x) where
+    pub plain-refused′ : (e : ErrorCode) → x ≡ way.Refused e → Plainly t names s b st (outcome.Refused e)
+    plain-refused′ e q = plainly-refused (refusal-led (rw q at o))
 
-    pub read-text′ : y ≡ halt.Text → Begins t names s b (seenAt s st) (header.Found c q kept stop.Text (stateOf at (not q) m))
-    read-text′ k = rw (close-text s p m c kept q eq at ea y ey k) led
+    module _ (c kept p : ℕ) (m : Bool) (e : x ≡ way.Leaf c kept p m) (q : Bool) (eq : q ≡ standsAt 63 s p) (at : ℕ) (ea : at ≡ behindByte 63 s p) (y : Halt) (ey : y ≡ haltOf s at) where
+      led : Begins t names s b (seenAt s st) (leafAnswer s c kept (aheadAt s p m))
+      led = leaf-led (rw e at o)
 
-    pub read-separator′ : (n : ℕ) → y ≡ halt.Separator n → Begins t names s b (seenAt s st) (header.Found c q kept stop.Separator (stateOf n false m))
-    read-separator′ n k = rw (close-separator s p m c kept q eq at ea y ey n k) led
+      pub plain-text′ : y ≡ halt.Text → Plainly t names s b st (outcome.Found c q kept stop.Text at (not q) m)
+      plain-text′ k =
+          let o : Begins t names s b (seenAt s st) (header.Found c q kept stop.Text (stateOf at (not q) m)) = rw (close-text s p m c kept q eq at ea y ey k) led in
+          plainly-found o
 
-    pub read-unit′ : (n : ℕ) → y ≡ halt.Unit n → Begins t names s b (seenAt s st) (header.Found c q kept stop.Unit (stateOf n true false))
-    read-unit′ n k = rw (close-unit s p m c kept q eq at ea y ey n k) led
+      pub plain-separator′ : (n : ℕ) → y ≡ halt.Separator n → Plainly t names s b st (outcome.Found c q kept stop.Separator n false m)
+      plain-separator′ n k =
+          let o : Begins t names s b (seenAt s st) (header.Found c q kept stop.Separator (stateOf n false m)) = rw (close-separator s p m c kept q eq at ea y ey n k) led in
+          plainly-found o
 
-pub ruleset read-laws = (needs, read-refused′, read-text′, read-separator′, read-unit′)
+      pub plain-unit′ : (n : ℕ) → y ≡ halt.Unit n → Plainly t names s b st (outcome.Found c q kept stop.Unit n true false)
+      plain-unit′ n k =
+          let o : Begins t names s b (seenAt s st) (header.Found c q kept stop.Unit (stateOf n true false)) = rw (close-unit s p m c kept q eq at ea y ey n k) led in
+          plainly-found o
+
+pub ruleset plain-laws = (needs, not-plain′, plain-refused′, plain-text′, plain-separator′, plain-unit′)
+
+-- a state that is in a header, and not behind a star
+pub plain-state′ : (t names s : List ℕ) (b p : ℕ) (h c : Bool) → not h ≡ false → c ≡ false → (x : Outcome) → Plainly t names s b (stateOf p true false) x → Plainly t names s b (stateOf p h c) x
+plain-state′ t names s b p h c eh ec x o = rw (not-false h eh, ec) o
+
+pub ruleset state-laws = (needs, not-plain′, plain-state′)
+
+-- the answer by what is plain, and token by token
+
+module _ {t names s : List ℕ} {b : ℕ} {st : State} where
+  found-plain : {c : ℕ} {q : Bool} {kept : ℕ} {x : Stop} {p : ℕ} {h m : Bool} → Plainly t names s b st (outcome.Found c q kept x p h m)
+      → Begins t names s b (seenAt s st) (header.Found c q kept x (stateOf p h m))
+  found-plain (plainly-found o) = o
+
+  refused-plain : {e : ErrorCode} → Plainly t names s b st (outcome.Refused e) → Begins t names s b (seenAt s st) (header.Refused e)
+  refused-plain (plainly-refused o) = o
+
+module _ (t names s : List ℕ) (b : ℕ) (st : State) (x : Outcome) (o : Plainly t names s b st x) where
+  pub read-refused′ : (e : ErrorCode) → x ≡ outcome.Refused e → Begins t names s b (seenAt s st) (header.Refused e)
+  read-refused′ e q = refused-plain (rw q at o)
+
+  pub read-found′ : (c : ℕ) (q : Bool) (kept : ℕ) (y : Stop) (p : ℕ) (h m : Bool) → x ≡ outcome.Found c q kept y p h m → Begins t names s b (seenAt s st) (header.Found c q kept y (stateOf p h m))
+  read-found′ c q kept y p h m e = found-plain (rw e at o)
+
+pub ruleset read-laws = (needs, read-refused′, read-found′)
 
 pub read-other′ : (t names s : List ℕ) (b : ℕ) (st : State) (y : Seen) → y ≡ seenAt s st → (r : Header) → Begins t names s b y r → Begins t names s b (seenAt s st) r
 read-other′ t names s b st y e r o = rw e at o

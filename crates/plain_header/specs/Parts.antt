@@ -14,15 +14,21 @@ use Rattle.node.specs.Tree.{branch}
 use Rattle.node.specs.Word.{commandNumber}
 use Rattle.branch.specs.Ways.{Settles}
 use Rattle.branch.specs.declared.Pick.the-variants as pick
+use Rattle.token.specs.declared.Token.{Token}
+use Rattle.item.specs.Word.{mnemonic}
+use Rattle.item.specs.declared.Read.the-variants as read
 use Rattle.tokenizer.specs.Step.{stateOf}
 use Rattle.tokenizer.specs.declared.State.{State}
 use Rattle.ahead.specs.Seen.{seenAt}
+use Rattle.ahead.specs.declared.Stop.{Stop}
 use Rattle.ahead.specs.declared.Seen.{Seen}
 use Rattle.header.specs.Header.{leafAnswer, turnOf, Reads, Begins}
 use Rattle.header.specs.declared.Turn.the-variants as turn
 use Rattle.header.specs.declared.Header.the-variants as header
 use Rattle.plain_header.specs.declared.Way.{Way}
 use Rattle.plain_header.specs.declared.Way.the-variants as way
+use Rattle.plain_header.specs.declared.Outcome.{Outcome}
+use Rattle.plain_header.specs.declared.Outcome.the-variants as outcome
 use Rattle.plain_header.specs.declared.Halt.{Halt}
 use Rattle.plain_header.specs.declared.Halt.the-variants as halt
 
@@ -92,8 +98,20 @@ pub data Goes (t names s : List ℕ) (b : ℕ) (star : Bool) (n p : ℕ) : Way �
   goes-to-refusal : {e : ErrorCode} → isStart t s star n p ≡ true → Reads t names s n n (aheadAt s p false) (header.Refused e) → Goes t names s b star n p (way.Refused e)
   goes-nowhere : Goes t names s b star n p way.Other
 
+-- Undefined s p x: the way x where the word at the place p spells nothing.
+pub data Undefined (s : List ℕ) (p : ℕ) : Way → Type 0 where
+  undefined-word : {k : Token} {next : ℕ} → mnemonic s p ≡ read.Token k next → Undefined s p (way.Refused refusal.UndefinedHeader)
+  no-word : {e : ErrorCode} → mnemonic s p ≡ read.Refused e → Undefined s p (way.Refused e)
+
 -- Settled t s h n p x: the way x where the header ends at the branch n, behind a word that stands before the place p; h is kept.
 pub data Settled (t s : List ℕ) (h n p : ℕ) : Way → Type 0 where
   settled-leaf : {k : ℕ} → turnOf s (aheadAt s p false) ≡ turn.Stop → Settles t n (pick.Child k) → Settled t s h n p (way.Leaf (commandNumber (getD t k 0)) h p false)
   settled-none : turnOf s (aheadAt s p false) ≡ turn.Stop → Settles t n pick.None → Settled t s h n p (way.Refused refusal.UndefinedHeader)
   not-settled : Settled t s h n p way.Other
+
+-- Plainly t names s b st x: the plain header x from the branch b and the state st on.
+pub data Plainly (t names s : List ℕ) (b : ℕ) (st : State) : Outcome → Type 0 where
+  plainly-found : {c : ℕ} {q : Bool} {kept : ℕ} {x : Stop} {p : ℕ} {in-header in-common : Bool}
+      → Begins t names s b (seenAt s st) (header.Found c q kept x (stateOf p in-header in-common)) → Plainly t names s b st (outcome.Found c q kept x p in-header in-common)
+  plainly-refused : {e : ErrorCode} → Begins t names s b (seenAt s st) (header.Refused e) → Plainly t names s b st (outcome.Refused e)
+  not-plain : Plainly t names s b st outcome.Other

@@ -37,7 +37,7 @@ pub fn resolve_accepted(nodes: &[u64], names: &[u8], start: usize, s: &[u8]) -> 
     if 65535 < s.len() {
         return Resolved::Refused(ErrorCode::MessageTooLong);
     }
-    match plain_header::read(nodes, names, s, start, tokenizer::new()) {
+    match plain_header::first(nodes, names, s, start) {
         Header::Refused(e) => Resolved::Refused(e),
         Header::Found {
             command,

@@ -8,11 +8,14 @@ returns c = search ends
 shared-slice-read-match : tie.Need-shared-slice-read-match
 shared-slice-read-match c = search ends
 
+add-skip-ws : tie.Need-add-skip-ws
+add-skip-ws c = search ends
+
 skip-ws-requires : tie.Need-skip-ws-requires
 skip-ws-requires c κs = search ends
 
-add-skip-ws : tie.Need-add-skip-ws
-add-skip-ws c = search ends
+add-skip-ws-2 : tie.Need-add-skip-ws-2
+add-skip-ws-2 c = search ends
 
 skip-ws-requires-2 : tie.Need-skip-ws-requires-2
 skip-ws-requires-2 c κs = search ends
@@ -32,8 +35,9 @@ ending-spec =
     (tie.spec
     returns
     shared-slice-read-match
-    skip-ws-requires
     add-skip-ws
+    skip-ws-requires
+    add-skip-ws-2
     skip-ws-requires-2
     returns-2
     returns-3

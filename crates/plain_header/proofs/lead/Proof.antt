@@ -2,20 +2,11 @@ use Rattle.plain_header.proofs.Ways.{lead-laws}
 use Rattle.plain_header.proofs.lead.Statement.{statement}
 use Rattle.plain_header.proofs.lead.Tie as tie
 
-returns : tie.Need-returns
-returns c = search lead-laws
-
-returns-2 : tie.Need-returns-2
-returns-2 c = search lead-laws
-
 is-branch-requires : tie.Need-is-branch-requires
 is-branch-requires c κs = search lead-laws
 
-returns-3 : tie.Need-returns-3
-returns-3 c = search lead-laws
-
-returns-4 : tie.Need-returns-4
-returns-4 c = search lead-laws
+returns : tie.Need-returns
+returns c = search lead-laws
 
 stands-requires : tie.Need-stands-requires
 stands-requires c κs = search lead-laws
@@ -29,20 +20,17 @@ behind-requires c κs = search lead-laws
 words-requires : tie.Need-words-requires
 words-requires c κs = search lead-laws
 
-returns-5 : tie.Need-returns-5
-returns-5 c = search lead-laws
+returns-2 : tie.Need-returns-2
+returns-2 c = search lead-laws
 
 pub lead-spec : {M : Type 1} → statement M
 lead-spec =
     tie.close
     (tie.spec
-    returns
-    returns-2
     is-branch-requires
-    returns-3
-    returns-4
+    returns
     stands-requires
     start-of-requires
     behind-requires
     words-requires
-    returns-5)
+    returns-2)

@@ -11,11 +11,8 @@ returns c = search accepted-laws
 returns-2 : tie.Need-returns-2
 returns-2 c = search accepted-laws
 
-new-requires : tie.Need-new-requires
-new-requires c κs = search accepted-laws
-
-read-requires : tie.Need-read-requires
-read-requires c κs = search accepted-laws
+first-requires : tie.Need-first-requires
+first-requires c κs = search accepted-laws
 
 enum-known-e : tie.Need-enum-known-e
 enum-known-e c = search accepted-laws
@@ -39,8 +36,7 @@ resolve-accepted-spec =
     is-branch-requires
     returns
     returns-2
-    new-requires
-    read-requires
+    first-requires
     enum-known-e
     enum-known-command
     alone-requires

@@ -1,6 +1,6 @@
 use Rattle.plain_header.proofs.Places.{words}
-use Rattle.plain_header.proofs.begins_word.Statement.{statement}
-use Rattle.plain_header.proofs.begins_word.Tie as tie
+use Rattle.plain_header.proofs.word.begins_word.Statement.{statement}
+use Rattle.plain_header.proofs.word.begins_word.Tie as tie
 
 returns : tie.Need-returns
 returns c = search words

@@ -1,6 +1,6 @@
 -- Laws of counting items form by form, as the code meets them.
 use Prim.Native.Nat.{ℕ, _+_, _-_, _≤_, _<_, _^_}
-use mathlib.Core.Path.{_≡_, refl, sym, ap, _∙_}
+use mathlib.Core.Path.{_≡_, refl, sym, ap, subst, _∙_}
 use mathlib.Core.List.{List}
 use mathlib.Core.Bool.{Bool, true, false, false≢true}
 use native.Mathlib.Omega.{arith}
@@ -20,13 +20,14 @@ use Rattle.tokenizer.specs.Step.{stateOf, inHeader, inCommon, taken, step}
 use Rattle.tokenizer.specs.declared.State.{State}
 use Rattle.unit.specs.Entry.{tokenEntry, metWith, metAt}
 use Rattle.unit.specs.Items.{Joined, ended, more, Items, none, some}
-use Rattle.unit.specs.Parts.{Reading, takes, Ending, ends-at, other}
+use Rattle.unit.specs.Parts.{Reading, takes, Ending, ends-at, other, Counts, all-counted, not-counted}
 use Rattle.unit.specs.declared.Entry.the-variants as entry
-use Rattle.unit.specs.declared.Met.{Met}
 use Rattle.unit.specs.declared.Data.{Data}
 use Rattle.unit.specs.declared.Data.the-variants as found
 use Rattle.unit.specs.declared.Ends.{Ends}
 use Rattle.unit.specs.declared.Ends.the-variants as ends
+use Rattle.unit.specs.declared.Counted.{Counted}
+use Rattle.unit.specs.declared.Counted.the-variants as counted
 use Rattle.unit.proofs.Entries.{inside}
 use Rattle.unit.proofs.Meets.{met-step, end-met, unit-met, comma-met}
 
@@ -59,52 +60,62 @@ module _ (s : List ℕ) (at : ℕ) where
   pub other′ : Ending s at ends.Other
   other′ = other
 
-  pub next-unit′ : (next : ℕ) → next ≡ runEnd isWhiteSpace s at → stateOf next true false ≡ stateOf (runEnd isWhiteSpace s at) true false
-  next-unit′ next e = rw e
-
   item-met : (x : Ends) → Ending s at x → (end : ℕ) → x ≡ ends.At end → (common : Bool) → metAt s (stateOf at false common) ≡ metWith entry.Item (stateOf end false common)
   item-met x d end e = go (rw e at d)
     where
       go : {end : ℕ} → Ending s at (ends.At end) → (common : Bool) → metAt s (stateOf at false common) ≡ metWith entry.Item (stateOf end false common)
       go (ends-at f) = f
 
-pub ruleset ending = (needs, ends-at′, other′, next-unit′)
+pub ruleset ending = (needs, ends-at′, other′)
 
--- what is answered behind n items and one more at a place is the answer for all
-unfoldable pub Counted : List ℕ → State → Bool → ℕ → ℕ → Type 0
-Counted s st common n place = (next : State) (r : Data) → metAt s (stateOf place false common) ≡ metWith entry.Item next → Joined s (n + 1) next r → Items s st r
+-- what is answered behind n items and one more at a place is answered from the first place on
+unfoldable pub Partway : List ℕ → Bool → ℕ → ℕ → ℕ → Type 0
+Partway s common first n place = (next : State) (r : Data) → metAt s (stateOf place false common) ≡ metWith entry.Item next → Joined s (n + 1) next r
+    → Items s (stateOf first false common) r
 
-module _ (s : List ℕ) (st : State) (out : inHeader st ≡ false) where
-  -- the state by its parts
-  plain : {x : Met} → metAt s (stateOf (st .place) false (inCommon st)) ≡ x → metAt s st ≡ x
-  plain e = ap (λ h. metAt s (stateOf (st .place) h (inCommon st))) out ∙ e
+pub begun′ : (s : List ℕ) (common : Bool) (first : ℕ) → Partway s common first 0 first
+unfolding Partway
+begun′ s common first next r e j = some e j
 
-  pub no-text′ : length s ≤ st .place → Items s st (found.Items 0 (stateOf (st .place) false (inCommon st)))
-  no-text′ h = none (plain (end-met s (st .place) (inCommon st) h))
+module _ (s : List ℕ) (st : State) where
+  pub not-counted′ : Counts s st counted.Other
+  not-counted′ = not-counted
 
-  pub no-item′ : st .place < length s → getD s (st .place) 0 ≡ 59 → (next : State) → next ≡ stateOf (runEnd isWhiteSpace s (st .place + 1)) true false → Items s st (found.Items 0 next)
-  no-item′ h e next f = rw f (none (plain (unit-met s (st .place) (inCommon st) h e)))
+  pub counted-items′ : (x : Counted) → Counts s st x → (n place : ℕ) (header common : Bool) → x ≡ counted.Items n place header common → Items s st (found.Items n (stateOf place header common))
+  counted-items′ x d n place header common e = go (rw e at d)
+    where
+      go : {n place : ℕ} {header common : Bool} → Counts s st (counted.Items n place header common) → Items s st (found.Items n (stateOf place header common))
+      go (all-counted i) = i
 
-  pub none-counted′ : Counted s st (inCommon st) 0 (st .place)
-  unfolding Counted
-  none-counted′ next r e j = some (plain e) j
+  module _ (out : inHeader st ≡ false) where
+    -- the state by its parts
+    plain : {n place : ℕ} {header common : Bool} → Items s (stateOf (st .place) false (inCommon st)) (found.Items n (stateOf place header common))
+        → Counts s st (counted.Items n place header common)
+    plain {n} {place} {header} {common} i =
+        all-counted (subst (λ (h : Bool). Items s (stateOf (st .place) h (inCommon st)) (found.Items n (stateOf place header common))) (sym out) i)
+
+    pub no-text′ : length s ≤ st .place → Counts s st (counted.Items 0 (st .place) false (inCommon st))
+    no-text′ h = plain (none (end-met s (st .place) (inCommon st) h))
+
+    pub no-item′ : st .place < length s → getD s (st .place) 0 ≡ 59 → (next : ℕ) → next ≡ runEnd isWhiteSpace s (st .place + 1) → Counts s st (counted.Items 0 next true false)
+    no-item′ h e next f = plain (rw f (none (unit-met s (st .place) (inCommon st) h e)))
 
 module _ (s : List ℕ) (place : ℕ) (x : Ends) (d : Ending s place x) (end : ℕ) (e : x ≡ ends.At end) where
-  module _ (st : State) (common : Bool) (n : ℕ) (b : Counted s st common n place) (k : ℕ) (ek : k ≡ n + 1) where
-    behind : {r : Data} → Joined s k (stateOf end false common) r → Items s st r
-    unfolding Counted
+  module _ (common : Bool) (first n : ℕ) (b : Partway s common first n place) (k : ℕ) (ek : k ≡ n + 1) where
+    behind : {r : Data} → Joined s k (stateOf end false common) r → Items s (stateOf first false common) r
+    unfolding Partway
     behind j = b _ _ (item-met s place x d end e common) (rw ek at j)
 
-    pub text-over′ : length s ≤ end → Items s st (found.Items k (stateOf end false common))
-    text-over′ h = behind (ended (end-met s end common h))
+    pub partway′ : end < length s → getD s end 0 ≡ 44 → (p : Pass) → p ≡ commaTo s (end + 1) false → (to : ℕ) → p ≡ pass.To to → Partway s common first k to
+    unfolding Partway
+    partway′ h f p ep to q next r g j = behind (more (comma-met s end common h f p ep to q) g j)
 
-    module _ (h : end < length s) where
-      pub unit-over′ : getD s end 0 ≡ 59 → (next : State) → next ≡ stateOf (runEnd isWhiteSpace s (end + 1)) true false → Items s st (found.Items k next)
-      unit-over′ f next g = rw g (behind (ended (unit-met s end common h f)))
+  module _ (st : State) (out : inHeader st ≡ false) (n : ℕ) (b : Partway s (inCommon st) (st .place) n place) (k : ℕ) (ek : k ≡ n + 1) where
+    pub text-over′ : length s ≤ end → Counts s st (counted.Items k end false (inCommon st))
+    text-over′ h = plain s st out (behind (inCommon st) (st .place) n b k ek (ended (end-met s end (inCommon st) h)))
 
-      pub counted′ : getD s end 0 ≡ 44 → (p : Pass) → p ≡ commaTo s (end + 1) false → (to : ℕ) → p ≡ pass.To to → Counted s st common k to
-      unfolding Counted
-      counted′ f p ep to q next r g j = behind (more (comma-met s end common h f p ep to q) g j)
+    pub unit-over′ : end < length s → getD s end 0 ≡ 59 → (next : ℕ) → next ≡ runEnd isWhiteSpace s (end + 1) → Counts s st (counted.Items k next true false)
+    unit-over′ h f next g = plain s st out (rw g (behind (inCommon st) (st .place) n b k ek (ended (unit-met s end (inCommon st) h f))))
 
   -- the count and the place
   moves : (place < length s) × (place < end)
@@ -123,7 +134,4 @@ module _ (s : List ℕ) (place : ℕ) (x : Ends) (d : Ending s place x) (end : �
     pub count-below′ : (n : ℕ) → n ≤ place → (k : ℕ) → k ≡ n + 1 → k ≤ to
     count-below′ n l k ek = omega (arith, ek, l, moves, on)
 
-pub none-below′ : (place : ℕ) → 0 ≤ place
-none-below′ place = omega arith
-
-pub ruleset counts = (needs, no-text′, no-item′, none-counted′, text-over′, unit-over′, counted′, count-fits′, less′, count-below′, none-below′)
+pub ruleset counts = (needs, begun′, not-counted′, counted-items′, no-text′, no-item′, partway′, text-over′, unit-over′, count-fits′, less′, count-below′)

@@ -34,7 +34,7 @@ pub ruleset laws = (needs, token-told′, answer-told′, met′)
 pub met-is : (s : List ℕ) (st : State) {m : Met} {x : Entry} → m ≡ metAt s st → m .entry ≡ x → metAt s st ≡ metWith x (m .state)
 met-is s st {m} e f = sym e ∙ ap (λ x. metWith x (m .state)) f
 
-abbrev isEnd : Entry → Bool
+abbrev pub isEnd : Entry → Bool
 isEnd entry.Item = false
 isEnd entry.Comma = false
 isEnd entry.End = true

@@ -1,14 +1,10 @@
 // Message units: a header and its items of data. `run_tokens` and `Parameters` of tree/mod.rs of the original.
 ghost use mathlib.Core.Path.{_≡_};
-ghost use mathlib.Core.Bool.{true, false};
-ghost use Rattle.kind.specs.Class.{isWhiteSpace};
-ghost use Rattle.util.specs.Run.{runEnd};
-ghost use Rattle.tokenizer.specs.Step.{stateOf};
 ghost use Rattle.ahead.specs.Seen.{seenAt};
 ghost use Rattle.unit.specs.Entry.{tokenEntry, entryOf, metAt};
-ghost use Rattle.unit.specs.Items.{Items, Joined};
+ghost use Rattle.unit.specs.Items.{Items};
 ghost use Rattle.unit.specs.Unit.{Behind, Reads};
-ghost use Rattle.unit.specs.Parts.{beginsNumber, Reading, Ending};
+ghost use Rattle.unit.specs.Parts.{beginsNumber, Reading, Ending, Counts, endedAs};
 use ahead::Stop;
 use error::ErrorCode;
 use header::Header;
@@ -54,6 +50,17 @@ enum Ends {
     Other,
 }
 
+// The items that are read form by form, and the parts of the state behind what ended them; or that they are not read so.
+enum Counted {
+    Items {
+        count: usize,
+        place: usize,
+        in_header: bool,
+        in_common: bool,
+    },
+    Other,
+}
+
 // Reads one unit from a branch and a state.
 pub fn read(nodes: &[u64], names: &[u8], s: &[u8], start: usize, state: State) -> Unit
     ensures { λ r. ⌜ Reads (now (nodes .entry)) (now (names .entry)) (now (s .entry)) start (seenAt (now (s .entry)) state) r ⌝ }
@@ -92,75 +99,86 @@ fn behind(s: &[u8], stop: Stop, state: State) -> Data
     }
 }
 
-// No items, or items with single commas between them. They are read here form by form; where one is not read so, or the state is in a
-// header, all are read again token by token.
+// No items, or items with single commas between them. They are read form by form; where they are not read so, they are read again token by
+// token.
 fn items(s: &[u8], state: State) -> Data
     ensures { λ r. ⌜ Items (now (s .entry)) state r ⌝ }
 {
+    match plain_items(s, state) {
+        Counted::Items {
+            count,
+            place,
+            in_header,
+            in_common,
+        } => Data::Items {
+            count,
+            state: State {
+                place,
+                in_header,
+                in_common,
+            },
+        },
+        Counted::Other => token_items(s, state),
+    }
+}
+
+// The items, form by form. Where one is not read so, or the state is in a header, they are not counted here.
+fn plain_items(s: &[u8], state: State) -> Counted
+    ensures { λ r. ⌜ Counts (now (s .entry)) state r ⌝ }
+{
     if state.in_header {
-        return token_items(s, state);
+        return Counted::Other;
     }
     let in_common = state.in_common;
     let first = state.place;
     if s.len() <= first {
-        return Data::Items {
+        return Counted::Items {
             count: 0,
-            state: State {
-                place: first,
-                in_header: false,
-                in_common,
-            },
+            place: first,
+            in_header: false,
+            in_common,
         };
     }
     if s[first] == b';' {
-        return Data::Items {
+        return Counted::Items {
             count: 0,
-            state: next_unit(s, first + 1),
+            place: util::skip_ws(s, first + 1),
+            in_header: true,
+            in_common: false,
         };
     }
     let mut count = 0;
     let mut place = first;
     loop {
         match item_end(s, place) {
-            Ends::Other => return token_items(s, state),
+            Ends::Other => return Counted::Other,
             Ends::At(end) => {
                 count += 1;
                 if s.len() <= end {
-                    return Data::Items {
+                    return Counted::Items {
                         count,
-                        state: State {
-                            place: end,
-                            in_header: false,
-                            in_common,
-                        },
+                        place: end,
+                        in_header: false,
+                        in_common,
                     };
                 }
                 if s[end] == b';' {
-                    return Data::Items {
+                    return Counted::Items {
                         count,
-                        state: next_unit(s, end + 1),
+                        place: util::skip_ws(s, end + 1),
+                        in_header: true,
+                        in_common: false,
                     };
                 }
                 if s[end] != b',' {
-                    return token_items(s, state);
+                    return Counted::Other;
                 }
                 match separator::comma(s, end + 1, false) {
-                    Pass::Refused(_) => return token_items(s, state),
+                    Pass::Refused(_) => return Counted::Other,
                     Pass::To(next) => place = next,
                 }
             }
         }
-    }
-}
-
-// The state behind a `;` that ends before a place.
-fn next_unit(s: &[u8], at: usize) -> State
-    ensures { λ r. ⌜ r ≡ stateOf (runEnd isWhiteSpace (now (s .entry)) at) true false ⌝ }
-{
-    State {
-        place: util::skip_ws(s, at),
-        in_header: true,
-        in_common: false,
     }
 }
 
@@ -187,6 +205,9 @@ fn read_item(s: &[u8], at: usize) -> Read
         return Read::Refused(ErrorCode::SyntaxError);
     }
     let b = s[at];
+    if b == b'(' {
+        return enclosed::read_expression_data(s, at + 1);
+    }
     if kind::is_letter(b) {
         return item::read_character_data(s, at);
     }
@@ -194,7 +215,6 @@ fn read_item(s: &[u8], at: usize) -> Read
         return decimal::read_numeric_data(s, at);
     }
     match b {
-        b'(' => enclosed::read_expression_data(s, at + 1),
         b'"' | b'\'' => enclosed::read_string_data(s, at + 1, b),
         b'#' => hash::read_hash_data(s, at + 1),
         _ => Read::Refused(ErrorCode::SyntaxError),
@@ -215,50 +235,47 @@ fn begins_number(b: u8) -> bool
 }
 
 // No items, or items with single commas between them, token by token.
-fn token_items(s: &[u8], state: State) -> Data
-    ensures { λ r. ⌜ Items (now (s .entry)) state r ⌝ }
+fn token_items(s: &[u8], first: State) -> Data
+    ensures { λ r. ⌜ Items (now (s .entry)) first r ⌝ }
 {
-    let met = meet(s, state);
-    let entry = met.entry;
-    let state = met.state;
-    match entry {
-        Entry::End => Data::Items { count: 0, state },
-        Entry::Refused(e) => Data::Refused(e),
-        Entry::Comma => Data::Refused(ErrorCode::SyntaxError),
-        Entry::Item => joined(s, state),
-    }
-}
-
-// What follows the first item: a comma and an item, as often as they stand there.
-fn joined(s: &[u8], first: State) -> Data
-    ensures { λ r. ⌜ Joined (now (s .entry)) 1 first r ⌝ }
-{
-    let mut count = 1;
+    let mut item = false;
+    let mut count = 0;
     let mut state = first;
     loop {
         let met = meet(s, state);
         let entry = met.entry;
-        let behind = met.state;
         match entry {
-            Entry::End => return Data::Items {
-                count,
-                state: behind,
-            },
             Entry::Refused(e) => return Data::Refused(e),
-            Entry::Item => return Data::Refused(ErrorCode::SyntaxError),
-            Entry::Comma => {}
+            Entry::End => return ended(item, count, met.state),
+            Entry::Item => {
+                if item {
+                    return Data::Refused(ErrorCode::SyntaxError);
+                }
+                count += 1;
+                item = true;
+            }
+            Entry::Comma => {
+                if !item {
+                    return Data::Refused(ErrorCode::SyntaxError);
+                }
+                item = false;
+            }
         }
-        let met = meet(s, behind);
-        let entry = met.entry;
-        match entry {
-            Entry::Item => {}
-            Entry::Refused(e) => return Data::Refused(e),
-            Entry::End => return Data::Refused(ErrorCode::SyntaxError),
-            Entry::Comma => return Data::Refused(ErrorCode::SyntaxError),
-        }
-        count += 1;
         state = met.state;
     }
+}
+
+// The answer where the items end, by whether an item stood last: a comma with no item behind it is refused.
+fn ended(item: bool, count: usize, state: State) -> Data
+    ensures { λ r. ⌜ r ≡ endedAs item count state ⌝ }
+{
+    if item {
+        return Data::Items { count, state };
+    }
+    if count == 0 {
+        return Data::Items { count, state };
+    }
+    Data::Refused(ErrorCode::SyntaxError)
 }
 
 // What the next token is among the items, and the state behind it.

@@ -8,14 +8,23 @@ returns c = search forms
 shared-slice-read-b : tie.Need-shared-slice-read-b
 shared-slice-read-b c = search forms
 
+add-read-expression-data : tie.Need-add-read-expression-data
+add-read-expression-data c = search forms
+
+read-expression-data-requires : tie.Need-read-expression-data-requires
+read-expression-data-requires c κs = search forms
+
+returns-2 : tie.Need-returns-2
+returns-2 c = search forms
+
 is-letter-requires : tie.Need-is-letter-requires
 is-letter-requires c κs = search forms
 
 read-character-data-requires : tie.Need-read-character-data-requires
 read-character-data-requires c κs = search forms
 
-returns-2 : tie.Need-returns-2
-returns-2 c = search forms
+returns-3 : tie.Need-returns-3
+returns-3 c = search forms
 
 begins-number-requires : tie.Need-begins-number-requires
 begins-number-requires c κs = search forms
@@ -23,14 +32,8 @@ begins-number-requires c κs = search forms
 read-numeric-data-requires : tie.Need-read-numeric-data-requires
 read-numeric-data-requires c κs = search forms
 
-returns-3 : tie.Need-returns-3
-returns-3 c = search forms
-
-add-read-expression-data : tie.Need-add-read-expression-data
-add-read-expression-data c = search forms
-
-read-expression-data-requires : tie.Need-read-expression-data-requires
-read-expression-data-requires c κs = search forms
+returns-4 : tie.Need-returns-4
+returns-4 c = search forms
 
 add-read-string-data : tie.Need-add-read-string-data
 add-read-string-data c = search forms
@@ -43,9 +46,6 @@ add-read-hash-data c = search forms
 
 read-hash-data-requires : tie.Need-read-hash-data-requires
 read-hash-data-requires c κs = search forms
-
-returns-4 : tie.Need-returns-4
-returns-4 c = search forms
 
 returns-5 : tie.Need-returns-5
 returns-5 c = search forms
@@ -62,19 +62,19 @@ read-item-spec =
     (tie.spec
     returns
     shared-slice-read-b
-    is-letter-requires
-    read-character-data-requires
-    returns-2
-    begins-number-requires
-    read-numeric-data-requires
-    returns-3
     add-read-expression-data
     read-expression-data-requires
+    returns-2
+    is-letter-requires
+    read-character-data-requires
+    returns-3
+    begins-number-requires
+    read-numeric-data-requires
+    returns-4
     add-read-string-data
     read-string-data-requires
     add-read-hash-data
     read-hash-data-requires
-    returns-4
     returns-5
     returns-6
     returns-7)

@@ -5,17 +5,11 @@ use mathlib.Core.List.{List}
 use borrow.Author.Needs.{needs}
 use Rattle.tokenizer.specs.declared.State.{State}
 use Rattle.ahead.specs.Seen.{seenAt}
-use Rattle.ahead.proofs.Tokens.{by-case}
-use Rattle.header.specs.Header.{behindQuery, queryAnswer, atLeaf, leafAnswer, wordBehind, behindColon, atBranch, turnOf, keeping}
+use Rattle.header.specs.Header.{behindQuery, queryAnswer, atLeaf, leafAnswer, wordBehind, behindColon, atBranch, turnOf}
 use Rattle.ahead.specs.declared.Ahead.{Ahead}
 use Rattle.ahead.specs.declared.Seen.{Seen}
 use Rattle.header.specs.declared.Turn.{Turn}
 use Rattle.header.specs.declared.Header.{Header}
-
-pub kept-told′ : (b : ℕ) (r x y : Header) → x ≡ y → r ≡ keeping b y → r ≡ keeping b x
-kept-told′ b = by-case (keeping b)
-
-pub ruleset laws = (needs, kept-told′)
 
 -- at a leaf, behind a question mark, behind a colon and at a branch, told by what is ahead
 

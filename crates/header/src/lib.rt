@@ -2,7 +2,8 @@
 ghost use Prim.Native.Nat.{_<_};
 ghost use mathlib.Core.Path.{_≡_};
 ghost use lib.ListN.{length};
-ghost use Rattle.header.specs.Header.{turnOf, behindColon, leafAnswer, queryAnswer, keeping, Reads, Begins};
+ghost use Rattle.header.specs.Header.{turnOf, behindColon, leafAnswer, queryAnswer, Reads, Begins};
+ghost use Rattle.header.specs.Parts.{frontOf, keepingIf};
 use ahead::Ahead;
 use ahead::Seen;
 use ahead::Stop;
@@ -32,6 +33,16 @@ pub enum Header {
     Refused(ErrorCode),
 }
 
+// Where a header begins: the branch, what is seen there, and whether it is a common command.
+enum Front {
+    From {
+        common: bool,
+        branch: usize,
+        first: Seen,
+    },
+    Refused(ErrorCode),
+}
+
 // Resolves the header of a unit from a branch, where its first token is seen.
 pub fn resolve(nodes: &[u64], names: &[u8], s: &[u8], start: usize, seen: Seen) -> Header
     ensures { λ r. ⌜ Begins (now (nodes .entry)) (now (names .entry)) (now (s .entry)) start seen r ⌝ }
@@ -39,26 +50,55 @@ pub fn resolve(nodes: &[u64], names: &[u8], s: &[u8], start: usize, seen: Seen) 
     if !branch::is_branch(nodes, start) {
         return Header::Refused(ErrorCode::StartIsNoBranch);
     }
+    match front_at(s, start, seen) {
+        Front::Refused(e) => Header::Refused(e),
+        Front::From {
+            common,
+            branch,
+            first,
+        } => keep(common, start, descend(nodes, names, s, branch, first)),
+    }
+}
+
+// Where a header begins, told by its first token. A leading colon starts at the root, and so does a common command.
+fn front_at(s: &[u8], start: usize, seen: Seen) -> Front
+    ensures { λ r. ⌜ r ≡ frontOf (now (s .entry)) start seen ⌝ }
+{
     let ahead = seen.ahead;
     let state = seen.state;
     match ahead {
-        Ahead::Refused(e) => Header::Refused(e),
-        Ahead::Stop(_) => Header::Refused(ErrorCode::SyntaxError),
-        Ahead::Query => Header::Refused(ErrorCode::SyntaxError),
-        Ahead::Colon => descend(nodes, names, s, 0, ahead::look(s, state)),
+        Ahead::Refused(e) => Front::Refused(e),
+        Ahead::Stop(_) => Front::Refused(ErrorCode::SyntaxError),
+        Ahead::Query => Front::Refused(ErrorCode::SyntaxError),
+        Ahead::Colon => Front::From {
+            common: false,
+            branch: 0, // the root
+            first: ahead::look(s, state),
+        },
         Ahead::Word(word) => {
             if util::stands(token::part(s, word), 0, b'*') {
-                return keep(start, descend(nodes, names, s, 0, seen));
+                return Front::From {
+                    common: true,
+                    branch: 0,
+                    first: seen,
+                };
             }
-            descend(nodes, names, s, start, seen)
+            Front::From {
+                common: false,
+                branch: start,
+                first: seen,
+            }
         }
     }
 }
 
-// The same command, with another branch kept.
-fn keep(start: usize, header: Header) -> Header
-    ensures { λ r. ⌜ r ≡ keeping start header ⌝ }
+// The same header; of a common command, with another branch kept.
+fn keep(common: bool, start: usize, header: Header) -> Header
+    ensures { λ r. ⌜ r ≡ keepingIf common start header ⌝ }
 {
+    if !common {
+        return header;
+    }
     match header {
         Header::Refused(e) => Header::Refused(e),
         Header::Found {

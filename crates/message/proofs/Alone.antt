@@ -1,12 +1,11 @@
 -- A header alone, and the message that it is.
 use Prim.Native.Nat.{ℕ, _≤_}
-use mathlib.Core.Path.{_≡_, refl, sym, ap, subst, _∙_}
+use mathlib.Core.Path.{_≡_, sym, ap, subst, _∙_}
 use mathlib.Core.List.{List, [], _∷_}
 use mathlib.Core.Bool.{Bool, true, false, false≢true}
 use lib.ListN.{length}
 use Rattle.error.specs.declared.ErrorCode.{ErrorCode}
 use Rattle.error.specs.declared.ErrorCode.the-variants as refusal
-use Rattle.kind.proofs.Tests.{clash}
 use Rattle.node.specs.Tree.{branch}
 use Rattle.record.specs.declared.Record.{Record}
 use Rattle.tokenizer.specs.Step.{step, ofMessage}
@@ -14,9 +13,7 @@ use Rattle.tokenizer.specs.declared.Answer.the-variants.{End}
 use Rattle.tokenizer.specs.declared.State.{State}
 use Rattle.ahead.specs.Seen.{aheadOf, seenAt}
 use Rattle.header.specs.Header.{Begins}
-use Rattle.header.specs.Header as begins
 use Rattle.ahead.specs.declared.Stop.the-variants as stop
-use Rattle.ahead.specs.declared.Seen.{Seen}
 use Rattle.header.specs.declared.Header.{Header}
 use Rattle.header.specs.declared.Header.the-variants as header
 use Rattle.header.proofs.Claims as headers
@@ -27,21 +24,7 @@ use Rattle.tree.specs.declared.Resolved.the-variants as resolved
 use Rattle.unit.specs.Unit.{at-end, recordOf, no-command, whole}
 use Rattle.message.specs.Message as message
 use Rattle.message.specs.Message.{isEnd, complete, refused, none, stopped, next, Message, text}
-
--- a header that is not refused as one that is missing
-abbrev Present : Header → Type 0
-Present (header.Found c query kept x st) = Unit {0}
-Present (header.Refused e) = e ≡ refusal.SyntaxError → ⊥
-
--- such a header does not begin at the end of the text
-begun : {t names s : List ℕ} {b : ℕ} {seen : Seen} {h : Header} → branch t b ≡ true → Begins t names s b seen h → Present h → isEnd (seen .ahead) ≡ false
-begun m (begins.no-branch l) p = clash m l
-begun m (begins.first-refused _ e) p = ap isEnd e
-begun m (begins.no-header _ e) p = absurd (p refl)
-begun m (begins.no-question _ e) p = ap isEnd e
-begun m (begins.from-root _ e r) p = ap isEnd e
-begun m (begins.common _ e f r) p = ap isEnd e
-begun m (begins.from-branch _ e f r) p = ap isEnd e
+use Rattle.message.proofs.Fronts.{begun}
 
 at-end-still : (s : List ℕ) (st : State) → (step s st) .answer ≡ End → isEnd ((seenAt s st) .ahead) ≡ true
 unfolding seenAt
@@ -75,7 +58,7 @@ module _ {t names : List ℕ} {b : ℕ} {s : List ℕ} where
       go (header.Found c′ query′ kept′ stop.Unit st) y o = no-command-here o
       go (header.Found c′ query′ kept′ stop.Text st) y o =
           subst (λ (u : Record). Message t names b s (u ∷ []) complete) (ap recordOfAnswer o)
-          (text m l (next (begun m y tt) (whole y at-end) (none (at-end-still s st (headers.claims .over _ _ _ _ _ _ _ _ _ y)))))
+          (text m l (next (begun y tt) (whole y at-end) (none (at-end-still s st (headers.claims .over _ _ _ _ _ _ _ _ _ y)))))
 
   pub refused-alike : {e : ErrorCode} → (e ≡ refusal.SyntaxError → ⊥) → (r : Resolved) → Resolves t names b s r → r ≡ resolved.Refused e → Message t names b s [] (refused e)
   refused-alike {e} other r x q = go x q
@@ -86,7 +69,7 @@ module _ {t names : List ℕ} {b : ℕ} {s : List ℕ} where
 
       by-header : branch t b ≡ true → length s ≤ 65535 → (h : Header) → Begins t names s b (seenAt s ofMessage) h → closing h ≡ resolved.Refused e
           → Message t names b s [] (refused e)
-      by-header m l (header.Refused c) y o = as-told o (text m l (stopped (begun m y (λ p. other (sym (ap codeIn o) ∙ p))) (no-command y)))
+      by-header m l (header.Refused c) y o = as-told o (text m l (stopped (begun y (m, λ p. other (sym (ap codeIn o) ∙ p))) (no-command y)))
       by-header m l (header.Found c query kept stop.Separator st) y o = absurd (other (sym (ap codeIn o)))
       by-header m l (header.Found c query kept stop.Unit st) y o = absurd (other (sym (ap codeIn o)))
       by-header m l (header.Found c query kept stop.Text st) y o = absurd (false≢true (ap isCommand (sym o)))

@@ -1,77 +1,53 @@
--- Laws of where a message ends, as the code meets them.
-use Prim.Native.Nat.{ℕ, _≤_, _<_, _+_}
-use mathlib.Core.Path.{_≡_, refl, sym, ap, _∙_}
+-- Where a message ends, and where it does not.
+use Prim.Native.Nat.{ℕ, _≤_}
+use mathlib.Core.Path.{_≡_, refl, ap, _∙_}
 use mathlib.Core.List.{List}
-use mathlib.Core.Bool.{Bool, true, false, not}
-use lib.ListN.{length, getD}
+use mathlib.Core.Bool.{Bool, true, false}
+use lib.ListN.{length}
 use borrow.Author.Needs.{needs}
-use borrow.Author.Tests.{not-false}
-use Rattle.kind.specs.Class.{isLetter}
-use Rattle.token.specs.declared.Token.{Token}
-use Rattle.token.specs.declared.Token.the-variants.{HeaderMnemonicSeparator, HeaderQuerySuffix, ProgramMessageUnitSeparator, ProgramHeaderSeparator, ProgramDataSeparator, ProgramMnemonic, CharacterProgramData, DecimalNumericProgramData, DecimalNumericSuffixProgramData, NonDecimalNumericProgramData, StringProgramData, ArbitraryBlockData, ExpressionProgramData}
-use Rattle.item.specs.Word.{mnemonic}
-use Rattle.item.specs.declared.Read.{Read}
-use Rattle.item.specs.declared.Read.the-variants as read
-use Rattle.separator.specs.Separator.{colonTo}
-use Rattle.separator.specs.declared.Pass.{Pass}
-use Rattle.separator.specs.declared.Pass.the-variants as pass
-use Rattle.tokenizer.specs.Step.{inHeader, inCommon, taken, refusal, readAs, passed}
+use Rattle.error.specs.declared.ErrorCode.the-variants as refusal
+use Rattle.kind.proofs.Tests.{clash}
+use Rattle.node.specs.Tree.{branch}
 use Rattle.tokenizer.specs.declared.State.{State}
-use Rattle.ahead.specs.Seen.{tokenAhead, seenOf, seenAt}
+use Rattle.tokenizer.specs.declared.Step.{Step}
+use Rattle.tokenizer.proofs.Claims as tokens
+use Rattle.ahead.specs.Seen.{aheadOf, seenAt}
 use Rattle.ahead.specs.declared.Seen.{Seen}
-use Rattle.plain_header.proofs.Looks.{end-seen′, letter-seen′, star-seen′, colon-seen′}
+use Rattle.header.specs.Header.{Begins}
+use Rattle.header.specs.Header as begins
+use Rattle.header.specs.declared.Header.{Header}
+use Rattle.header.specs.declared.Header.the-variants as header
+use Rattle.unit.specs.Unit.{Reads, whole}
+use Rattle.unit.specs.declared.Unit.the-variants as unit
+use Rattle.record.specs.declared.Record.{Record}
 use Rattle.message.specs.Message.{isEnd}
 
-abbrev ends : Seen → Bool
-ends y = isEnd (y .ahead)
+-- past the text a message ends
+pub past-text : (s : List ℕ) (st : State) → length s ≤ st .place → isEnd ((seenAt s st) .ahead) ≡ true
+unfolding seenAt
+past-text s st h = ap (λ (x : Step). isEnd (aheadOf (x .answer))) (tokens.claims .rests s st h)
 
--- a token is not the end, nor is a refusal
-token-no-end : (t : Token) → isEnd (tokenAhead t) ≡ false
-token-no-end HeaderMnemonicSeparator = refl
-token-no-end HeaderQuerySuffix = refl
-token-no-end ProgramMessageUnitSeparator = refl
-token-no-end ProgramHeaderSeparator = refl
-token-no-end ProgramDataSeparator = refl
-token-no-end (ProgramMnemonic v) = refl
-token-no-end (CharacterProgramData v) = refl
-token-no-end (DecimalNumericProgramData v) = refl
-token-no-end (DecimalNumericSuffixProgramData v u) = refl
-token-no-end (NonDecimalNumericProgramData n) = refl
-token-no-end (StringProgramData v) = refl
-token-no-end (ArbitraryBlockData v) = refl
-token-no-end (ExpressionProgramData v) = refl
+-- a header from the branch b that is not refused as one that is missing
+abbrev Present : List ℕ → ℕ → Header → Type 0
+Present t b (header.Found c query kept x st) = Unit {0}
+Present t b (header.Refused e) = (branch t b ≡ true) × (e ≡ refusal.SyntaxError → ⊥)
 
-read-no-end : (s : List ℕ) (st : State) (common : Bool) (r : Read) → ends (seenOf (readAs s st common r)) ≡ false
-unfolding readAs taken refusal
-read-no-end s st common (read.Token t next) = token-no-end t
-read-no-end s st common (read.Refused e) = refl
+-- such a header does not begin at the end of the text
+pub begun : {t names s : List ℕ} {b : ℕ} {seen : Seen} {h : Header} → Begins t names s b seen h → Present t b h → isEnd (seen .ahead) ≡ false
+begun (begins.no-branch l) p = clash (p .0) l
+begun (begins.first-refused _ e) p = ap isEnd e
+begun (begins.no-header _ e) p = absurd (p .1 refl)
+begun (begins.no-question _ e) p = ap isEnd e
+begun (begins.from-root _ e r) p = ap isEnd e
+begun (begins.common _ e f r) p = ap isEnd e
+begun (begins.from-branch _ e f r) p = ap isEnd e
 
-pass-no-end : (s : List ℕ) (st : State) (t : Token) (header : Bool) (p : Pass) → ends (seenOf (passed s st t header p)) ≡ false
-unfolding passed taken refusal
-pass-no-end s st t header (pass.To next) = token-no-end t
-pass-no-end s st t header (pass.Refused e) = refl
+-- nor does a unit that is read
+pub unit-begun : {t names s : List ℕ} {b : ℕ} {seen : Seen} {u : Record} {st : State} → Reads t names s b seen (unit.Read u st) → isEnd (seen .ahead) ≡ false
+unit-begun (whole y x) = begun y tt
 
-module _ (s : List ℕ) (st : State) where
-  pub at-text′ : length s ≤ st .place → true ≡ isEnd ((seenAt s st) .ahead)
-  at-text′ h = ap ends (end-seen′ s st _ h refl)
-
-  module _ (h : st .place < length s) where
-    pub at-letter′ : not (st .in_header) ≡ false → (b : Bool) → b ≡ isLetter (getD s (st .place) 0) → b ≡ true → false ≡ isEnd ((seenAt s st) .ahead)
-    at-letter′ k b e q =
-        sym (read-no-end s st (inCommon st) (mnemonic s (st .place)))
-        ∙ ap ends (letter-seen′ s st _ h b e q (not-false (st .in_header) k) (mnemonic s (st .place)) refl refl)
-
-    pub at-colon′ : getD s (st .place) 0 ≡ 58 → false ≡ isEnd ((seenAt s st) .ahead)
-    at-colon′ e =
-        let p : Pass = colonTo s (st .place + 1) (inHeader st) (inCommon st) in
-        sym (pass-no-end s st HeaderMnemonicSeparator (inHeader st) p) ∙ ap ends (colon-seen′ s st _ h p e refl refl)
-
-    pub at-star′ : getD s (st .place) 0 ≡ 42 → false ≡ isEnd ((seenAt s st) .ahead)
-    at-star′ e = sym (read-no-end s st true (mnemonic s (st .place))) ∙ ap ends (star-seen′ s st _ h e (mnemonic s (st .place)) refl refl)
-
-  pub sees′ : (y : Seen) → y ≡ seenAt s st → (r : Bool) → r ≡ isEnd (y .ahead) → r ≡ isEnd ((seenAt s st) .ahead)
-  sees′ y e r er = er ∙ ap ends e
-
-pub ruleset fronts = (needs, at-text′, at-letter′, at-colon′, at-star′)
+-- what is seen is seen again, as the code meets it
+pub sees′ : (s : List ℕ) (st : State) (y : Seen) → y ≡ seenAt s st → (r : Bool) → r ≡ isEnd (y .ahead) → r ≡ isEnd ((seenAt s st) .ahead)
+sees′ s st y e r er = er ∙ ap (λ (z : Seen). isEnd (z .ahead)) e
 
 pub ruleset sights = (needs, sees′)

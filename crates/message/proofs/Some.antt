@@ -1,6 +1,6 @@
 -- Every message has units and an ending.
 use Prim.Native.Nat.{ℕ, zero, suc, _-_, _≤_, _<_}
-use mathlib.Core.Path.{_≡_, refl, ap}
+use mathlib.Core.Path.{_≡_, refl}
 use mathlib.Core.Logic.{_⊎_, inl, inr}
 use mathlib.Core.List.{List}
 use mathlib.Core.Bool.{Bool, true, false}
@@ -10,15 +10,15 @@ use Rattle.kind.proofs.Tests.{clash, less-or-not}
 use Rattle.node.specs.Tree.{branch}
 use Rattle.tokenizer.specs.Step.{ofMessage}
 use Rattle.tokenizer.specs.declared.State.{State}
-use Rattle.tokenizer.specs.declared.Step.{Step}
 use Rattle.tokenizer.proofs.Claims as tokens
-use Rattle.ahead.specs.Seen.{aheadOf, seenAt}
+use Rattle.ahead.specs.Seen.{seenAt}
 use Rattle.unit.specs.Unit.{Reads}
 use Rattle.unit.specs.declared.Unit.{Unit}
 use Rattle.unit.specs.declared.Unit.the-variants as unit
 use Rattle.unit.proofs.Claims as units
 use Rattle.record.specs.declared.Record.{Record}
 use Rattle.message.specs.Message.{isEnd, Ending, Units, none, stopped, next, Message, no-branch, too-long, text}
+use Rattle.message.proofs.Fronts.{past-text}
 
 -- a token that does not end the message moves the place
 pub inside : (s : List ℕ) (st : State) → isEnd ((seenAt s st) .ahead) ≡ false → (st .place < length s) × (st .place < (seenAt s st) .state .place)
@@ -27,7 +27,7 @@ inside s st f = go (less-or-not (st .place) (length s))
   where
     go : (st .place < length s) ⊎ (length s ≤ st .place) → (st .place < length s) × (st .place < (seenAt s st) .state .place)
     go (inl l) = (l, tokens.claims .moves s st l)
-    go (inr l) = clash (ap (λ (x : Step). isEnd (aheadOf (x .answer))) (tokens.claims .rests s st l)) f
+    go (inr l) = clash (past-text s st l) f
 
 module _ (t names s : List ℕ) where
   within : (f b : ℕ) (st : State) → length s - st .place < f → (us : List Record) × (e : Ending) × Units t names s b st us e

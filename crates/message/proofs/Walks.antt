@@ -20,6 +20,7 @@ use Rattle.record.specs.Word.{wordOf}
 use Rattle.record.specs.declared.Record.{Record}
 use Rattle.message.specs.Message.{isEnd, Ending, complete, refused, Units, none, stopped, next, written, told, recorded, Walks}
 use Rattle.message.specs.declared.Walked.the-variants as walked
+use Rattle.message.proofs.Fronts.{past-text, unit-begun}
 use Rattle.message.proofs.Some.{some-units}
 
 -- the slots: one more word, and what does not fit
@@ -88,52 +89,51 @@ module _ (t names s : List ℕ) (start : ℕ) (before : List ℕ) (count kept : 
             rw (so .words, ← so .number) (sym (fitting before (so .units) e (rw (← so .number) at (so .room))));
       }
 
-  module _ (q : Bool) (o : q ≡ isEnd ((seenAt s st) .ahead)) where
-    ended? : isEnd ((seenAt s st) .ahead) ≡ q
-    ended? = sym o
+  pub past′ : length s ≤ st .place → Walks M before (walked.Units count) slots
+  past′ l = ends complete (none (past-text s st l))
 
-    pub done′ : q ≡ true → Walks M before (walked.Units count) slots
-    done′ h = ends complete (none (ended? ∙ h))
+  pub done′ : (q : Bool) → q ≡ isEnd ((seenAt s st) .ahead) → q ≡ true → Walks M before (walked.Units count) slots
+  done′ q o h = ends complete (none (sym o ∙ h))
 
-    module _ (h : q ≡ false) (r : Unit) (y : Reads t names s kept (seenAt s st) r) where
-      read : (x : Unit) → r ≡ x → Reads t names s kept (seenAt s st) x
-      read x f = subst (λ (z : Unit). Reads t names s kept (seenAt s st) z) f y
+  module _ (r : Unit) (y : Reads t names s kept (seenAt s st) r) where
+    read : (x : Unit) → r ≡ x → Reads t names s kept (seenAt s st) x
+    read x f = subst (λ (z : Unit). Reads t names s kept (seenAt s st) z) f y
 
-      pub refused′ : (e : ErrorCode) → r ≡ unit.Refused e → Walks M before (walked.Refused count e) slots
-      refused′ e f = ends (refused e) (stopped (ended? ∙ h) (read _ f))
+    pub refused′ : (q : Bool) → q ≡ isEnd ((seenAt s st) .ahead) → q ≡ false → (e : ErrorCode) → r ≡ unit.Refused e → Walks M before (walked.Refused count e) slots
+    refused′ q o h e f = ends (refused e) (stopped (sym o ∙ h) (read _ f))
 
-      module _ (u : Record) (behind : State) (f : r ≡ unit.Read u behind) where
-        whole : (us : List Record) (e : Ending) → Units t names s (u .branch) behind us e → M (so .units ++ (u ∷ us)) e
-        whole us e x = so .back _ e (next (ended? ∙ h) (read _ f) x)
+    module _ (u : Record) (behind : State) (f : r ≡ unit.Read u behind) where
+      whole : (us : List Record) (e : Ending) → Units t names s (u .branch) behind us e → M (so .units ++ (u ∷ us)) e
+      whole us e x = so .back _ e (next (unit-begun (read _ f)) (read _ f) x)
 
-        pub full′ : length slots ≤ count → Walks M before (walked.Refused count refusal.NoSlotLeft) slots
-        unfolding recorded
-        full′ l =
-            let rest = some-units t names s (u .branch) behind in
-            let us = so .units in
-            let k : length before ≡ count = omega (arith, l, so .room, written-length (map wordOf us) before, ap length (so .words)) in
-            let many : length before < length (us ++ (u ∷ rest .0)) = omega (arith, k, so .number, length-append us (u ∷ rest .0)) in
-            let no-room : length before ≤ length us = omega (arith, k, so .number) in
-            record {
-              units = us ++ (u ∷ rest .0);
-              ending = rest .1;
-              reads = whole (rest .0) (rest .1) (rest .2);
-              outcome = rw (lt-leb _ _ many, k, all-taken us (u ∷ rest .0) before no-room, ← so .words);
-            }
+      pub full′ : length slots ≤ count → Walks M before (walked.Refused count refusal.NoSlotLeft) slots
+      unfolding recorded
+      full′ l =
+          let rest = some-units t names s (u .branch) behind in
+          let us = so .units in
+          let k : length before ≡ count = omega (arith, l, so .room, written-length (map wordOf us) before, ap length (so .words)) in
+          let many : length before < length (us ++ (u ∷ rest .0)) = omega (arith, k, so .number, length-append us (u ∷ rest .0)) in
+          let no-room : length before ≤ length us = omega (arith, k, so .number) in
+          record {
+            units = us ++ (u ∷ rest .0);
+            ending = rest .1;
+            reads = whole (rest .0) (rest .1) (rest .2);
+            outcome = rw (lt-leb _ _ many, k, all-taken us (u ∷ rest .0) before no-room, ← so .words);
+          }
 
-        pub goes-on′ : count < length slots → (w : ℕ) → w ≡ wordOf u → (j : ℕ) → j ≡ count + 1 → (later : List ℕ) → later ≡ set slots count w
-            → SoFar t names s start before j (u .branch) behind later
-        goes-on′ l w e j g later o =
-            let us = so .units in
-            let inside : count < length before = omega (arith, l, written-length (map wordOf us) before, ap length (so .words)) in
-            let more : length us < length before = omega (arith, inside, so .number) in
-            record {
-              units = us ++ (u ∷ []);
-              number = length-append us (u ∷ []) ∙ omega (arith, so .number, g);
-              room = omega (arith, inside, g);
-              words = o ∙ rw (e, so .words, ← so .number) (one-more us u before more);
-              back = λ vs x z. subst (λ (a : List Record). M a x) (one-behind us u vs) (whole vs x z);
-            }
+      pub goes-on′ : count < length slots → (w : ℕ) → w ≡ wordOf u → (j : ℕ) → j ≡ count + 1 → (later : List ℕ) → later ≡ set slots count w
+          → SoFar t names s start before j (u .branch) behind later
+      goes-on′ l w e j g later o =
+          let us = so .units in
+          let inside : count < length before = omega (arith, l, written-length (map wordOf us) before, ap length (so .words)) in
+          let more : length us < length before = omega (arith, inside, so .number) in
+          record {
+            units = us ++ (u ∷ []);
+            number = length-append us (u ∷ []) ∙ omega (arith, so .number, g);
+            room = omega (arith, inside, g);
+            words = o ∙ rw (e, so .words, ← so .number) (one-more us u before more);
+            back = λ vs x z. subst (λ (a : List Record). M a x) (one-behind us u vs) (whole vs x z);
+          }
 
 pub less′ : (count n j : ℕ) → count < n → j ≡ count + 1 → n - j < n - count
 less′ count n j l g = omega (arith, l, g)
@@ -141,4 +141,4 @@ less′ count n j l g = omega (arith, l, g)
 pub same′ : (slots before : List ℕ) (i w : ℕ) → length slots ≡ length before → (later : List ℕ) → later ≡ set slots i w → length later ≡ length before
 same′ slots before i w e later o = ap length o ∙ length-set slots i w ∙ e
 
-pub ruleset walk-laws = (needs, at-front′, done′, refused′, full′, goes-on′, less′, same′)
+pub ruleset walk-laws = (needs, at-front′, past′, done′, refused′, full′, goes-on′, less′, same′)

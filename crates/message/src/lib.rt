@@ -54,7 +54,8 @@ pub fn walk_accepted(
     walk_units(nodes, names, start, s, slots)
 }
 
-// The units from the front of the text on.
+// The units from the front of the text on. No unit is read where the message ends, so past the text, and where a unit is refused, it is
+// asked whether it ends there.
 fn walk_units(nodes: &[u64], names: &[u8], start: usize, s: &[u8], slots: &mut [u64]) -> Walked
     ensures { λ r. ⌜ Walks (Units (now (nodes .entry)) (now (names .entry)) (now (s .entry)) start ofMessage) (now (slots .entry)) r (now (slots .exit)) ⌝ }
 {
@@ -62,11 +63,16 @@ fn walk_units(nodes: &[u64], names: &[u8], start: usize, s: &[u8], slots: &mut [
     let mut kept = start;
     let mut state = tokenizer::new();
     loop {
-        if at_end(s, state) {
+        if s.len() <= state.place {
             return Walked::Units(units);
         }
         match unit::read(nodes, names, s, kept, state) {
-            Unit::Refused(e) => return Walked::Refused { units, error: e },
+            Unit::Refused(e) => {
+                if sees_end(s, state) {
+                    return Walked::Units(units);
+                }
+                return Walked::Refused { units, error: e };
+            }
             Unit::Read {
                 record,
                 state: behind,
@@ -79,7 +85,12 @@ fn walk_units(nodes: &[u64], names: &[u8], start: usize, s: &[u8], slots: &mut [
                 }
                 units = put(slots, units, record::pack(record));
                 kept = record.branch;
-                state = behind;
+                // field by field, as a copy of the whole moves the bytes between the fields too
+                state = State {
+                    place: behind.place,
+                    in_header: behind.in_header,
+                    in_common: behind.in_common,
+                };
             }
         }
     }
@@ -94,28 +105,7 @@ fn put(slots: &mut [u64], at: usize, word: u64) -> usize
     at + 1
 }
 
-// Whether the message ends at a state. What begins a header is told at once, and the rest by the token that stands there.
-fn at_end(s: &[u8], state: State) -> bool
-    ensures { λ r. ⌜ r ≡ isEnd ((seenAt (now (s .entry)) state) .ahead) ⌝ }
-{
-    let at = state.place;
-    if s.len() <= at {
-        return true;
-    }
-    if !state.in_header {
-        return sees_end(s, state);
-    }
-    let b = s[at];
-    if kind::is_letter(b) {
-        return false;
-    }
-    match b {
-        b':' => false,
-        b'*' => false,
-        _ => sees_end(s, state),
-    }
-}
-
+// Whether the message ends at a state, told by the token that stands there.
 fn sees_end(s: &[u8], state: State) -> bool
     ensures { λ r. ⌜ r ≡ isEnd ((seenAt (now (s .entry)) state) .ahead) ⌝ }
 {
@@ -137,6 +127,7 @@ fn is_end(ahead: Ahead) -> bool
     }
 }
 
+// Whether it is the end of the text that stands there.
 fn is_text(stop: Stop) -> bool
     ensures { λ r. ⌜ r ≡ isText stop ⌝ }
 {

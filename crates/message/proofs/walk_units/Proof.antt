@@ -18,9 +18,6 @@ new-requires c κs = search walk-laws
 loop-holds : tie.Need-loop-holds Inv-loop μ-loop
 loop-holds c = search walk-laws
 
-at-end-requires : tie.Need-at-end-requires Inv-loop μ-loop
-at-end-requires c κs = search walk-laws
-
 same-length : tie.Need-same-length Inv-loop μ-loop
 same-length c = search walk-laws
 
@@ -33,20 +30,29 @@ read-requires c κs = search walk-laws
 enum-known-e : tie.Need-enum-known-e Inv-loop μ-loop
 enum-known-e c = search walk-laws
 
+sees-end-requires : tie.Need-sees-end-requires Inv-loop μ-loop
+sees-end-requires c κs = search walk-laws
+
 same-length-2 : tie.Need-same-length-2 Inv-loop μ-loop
 same-length-2 c = search walk-laws
 
 returns-2 : tie.Need-returns-2 Inv-loop μ-loop
 returns-2 c = search walk-laws
 
-enum-known-record : tie.Need-enum-known-record Inv-loop μ-loop
-enum-known-record c = search walk-laws
-
 same-length-3 : tie.Need-same-length-3 Inv-loop μ-loop
 same-length-3 c = search walk-laws
 
 returns-3 : tie.Need-returns-3 Inv-loop μ-loop
 returns-3 c = search walk-laws
+
+enum-known-record : tie.Need-enum-known-record Inv-loop μ-loop
+enum-known-record c = search walk-laws
+
+same-length-4 : tie.Need-same-length-4 Inv-loop μ-loop
+same-length-4 c = search walk-laws
+
+returns-4 : tie.Need-returns-4 Inv-loop μ-loop
+returns-4 c = search walk-laws
 
 pack-requires : tie.Need-pack-requires Inv-loop μ-loop
 pack-requires c κs = search walk-laws
@@ -68,16 +74,18 @@ walk-units-spec =
     μ-loop
     new-requires
     loop-holds
-    at-end-requires
     same-length
     returns
     read-requires
     enum-known-e
+    sees-end-requires
     same-length-2
     returns-2
-    enum-known-record
     same-length-3
     returns-3
+    enum-known-record
+    same-length-4
+    returns-4
     pack-requires
     put-requires
     loop-less

@@ -174,7 +174,7 @@ fn match_parts(stem: &[u8], suffix: &[u8], word: &[u8], number: &[u8]) -> bool
 
 // Whether the first characters of the texts have different remainders by 32. A letter has the same one in either case, so that then the word
 // does not spell the mnemonic.
-pub fn begins_otherwise(mnemonic: &[u8], s: &[u8]) -> bool
+fn begins_otherwise(mnemonic: &[u8], s: &[u8]) -> bool
     ensures { λ r. ⌜ r ≡ beginsOtherwise (now (mnemonic .entry)) (now (s .entry)) ⌝ }
 {
     if mnemonic.len() == 0 {

@@ -183,6 +183,10 @@ static void tables(void) {
         snprintf(name, sizeof name, "chain of %zu", depths[s]);
         row_of(name, "resolve", table, file, spoken[depths[s] + 1]);
     }
+    /* A word with a 1 added is not told letter by letter. */
+    char added[sizeof spoken[0] + 1];
+    snprintf(added, sizeof added, "%.15s1", spoken[depths[3] + 1]);
+    row_of("chain of 4000, 1 added", "resolve", table, "chain-4000-added", added);
 }
 
 /* The table of the program commandcheck. */
@@ -450,6 +454,7 @@ int main(int count, char **arguments) {
     row_of("VOLT, two nodes unsaid", "resolve", "card", "header-4", "VOLT");
     row_of("CURR", "resolve", "card", "header-5", "CURR");
     row_of("XYZ, unknown", "resolve", "card", "header-6", "XYZ");
+    row_of("ROUT1:CLOS1, 1 added", "resolve", "card", "header-7", "ROUT1:CLOS1");
     tables();
 
     group = "Names";

@@ -1,15 +1,16 @@
 -- The claims.
+use Rattle.util.proofs.Decided.{one-answer}
 use Rattle.branch.specs.Claims.{Claims}
-use Rattle.branch.proofs.Once.{one-pick, one-find, one-leaf}
-use Rattle.branch.proofs.Some.{some-pick, some-find, some-leaf}
+use Rattle.branch.proofs.Once.{one-pick, one-pick-in}
+use Rattle.branch.proofs.Some.{some-pick}
+use Rattle.branch.proofs.Picks.{picks-children}
 
 pub claims : Claims
 claims =
     record {
       some-pick = some-pick;
       one-pick = λ t b p. one-pick;
-      some-find = some-find;
-      one-find = λ t names w b x y. one-find;
-      some-leaf = some-leaf;
-      one-leaf = λ t b x y. one-leaf;
+      one-pick-in = λ p from to. one-pick-in;
+      one-child = λ t b k x y. one-answer;
+      picks-children = picks-children;
     }

@@ -1,6 +1,5 @@
--- Laws that belong to no one function.
+pub mod Blocks
 pub mod Picks
-pub mod Down
-pub mod Some
 pub mod Once
+pub mod Some
 pub mod Claims

@@ -1,126 +1,113 @@
--- Laws of the children of a branch, as the code meets them.
-use Prim.Native.Nat.{ℕ, _+_, _≤_, _<_}
-use mathlib.Core.Path.{_≡_, sym, _∙_}
+-- Laws of picks among the nodes of a block, as the code meets them; and what they are among the children of a branch.
+use Prim.Native.Nat.{ℕ, _+_, _-_, _≤_, _<_}
+use mathlib.Core.Path.{_≡_, refl, sym, _∙_}
+use mathlib.Core.Logic.{_⊎_, inl, inr}
 use mathlib.Core.List.{List}
-use mathlib.Core.Bool.{Bool, true, false, not}
+use mathlib.Core.Bool.{Bool, true, false, cond, _&&_}
 use native.Mathlib.Omega.{arith}
-use lib.ListN.{length, getD}
+use lib.Dec.{leb, ltb}
+use lib.ListN.{length, getD, List·getD-eq-default}
 use borrow.Author.Needs.{needs}
-use borrow.Author.Tests.{not-true, not-false}
-use Rattle.kind.proofs.Tests.{clash}
+use borrow.Author.Tests.{ltb-true, leb-true, lt-ltb, le-leb}
+use Rattle.kind.proofs.Tests.{clash, and-left, and-right, less-or-not}
+use Rattle.util.specs.Run.{least}
+use Rattle.util.proofs.Runs.{least-le, not-least}
 use Rattle.util.proofs.Before.{Before, none-yet, one-more}
-use Rattle.mnemonic.specs.Mnemonic.{matches}
-use Rattle.node.specs.Word.{isBranch, isDefault, firstChild, childCount, nameIn}
-use Rattle.node.specs.Tree.{branch}
-use Rattle.node.proofs.Laws.{block-fits′, past-table}
-use Rattle.branch.specs.Children.{Below, spokenBy, unsaidIn, Picks, first-one, not-one}
-use Rattle.branch.specs.Parts.{Covers}
+use Rattle.node.specs.Word.{isDefault}
+use Rattle.node.specs.Tree.{branch, first, count}
+use Rattle.branch.specs.Children.{Below, unsaidIn, Picks, first-one, not-one, PicksIn, first-in, none-in}
+use Rattle.branch.specs.Block.{block, blockOf, childrenOf, nextChild}
+use Rattle.branch.specs.declared.Pick.{Pick}
 use Rattle.branch.specs.declared.Pick.the-variants as pick
+use Rattle.branch.proofs.Blocks.{next-in′}
 
--- whether a node is a branch
+-- the nodes from one index up to another, and not the one there, are the children of b
+pub record Covers (t : List ℕ) (b from to : ℕ) : Type 0 where
+  pub only : (k : ℕ) → from ≤ k → k < to → Below t b k
+  pub all : (k : ℕ) → Below t b k → (from ≤ k) × (k < to)
 
-pub outside′ : (t : List ℕ) (b : ℕ) → length t ≤ b → false ≡ branch t b
-outside′ t b h = sym (past-table t b h)
+pub covers : (t : List ℕ) (b : ℕ) → Covers t b (childrenOf t b .from) (childrenOf t b .to)
+unfolding childrenOf blockOf
+covers t b = by (branch t b && (ltb b (first t b) && leb (first t b + count t b) (length t))) refl
+  where
+    by : (c : Bool) → (branch t b && (ltb b (first t b) && leb (first t b + count t b) (length t))) ≡ c
+        → Covers t b (cond c (blockOf (getD t b 0)) (block 0 0) .from) (cond c (blockOf (getD t b 0)) (block 0 0) .to)
+    by true e =
+        let m = and-left (branch t b) (ltb b (first t b) && leb (first t b + count t b) (length t)) e in
+        let r = and-right (branch t b) (ltb b (first t b) && leb (first t b + count t b) (length t)) e in
+        let l = ltb-true b (first t b) (and-left (ltb b (first t b)) (leb (first t b + count t b) (length t)) r) in
+        let u = leb-true (first t b + count t b) (length t) (and-right (ltb b (first t b)) (leb (first t b + count t b) (length t)) r) in
+        record {
+          only = λ k low high. record { child = record { holder = m; from = low; below = high }; behind = l; within = u };
+          all = λ k x. (x .child .from, x .child .below);
+        }
+    by false e =
+        record {
+          only = λ k low high. absurd (omega arith);
+          all = λ k x. clash (rw (x .child .holder, lt-ltb b (first t b) (x .behind), le-leb (first t b + count t b) (length t) (x .within))) e;
+        }
 
-pub ruleset branch-laws = (needs, outside′)
-
--- where the children stand
-
-no-children : (t : List ℕ) (b : ℕ) → ((k : ℕ) → Below t b k → ⊥) → Covers t b 0 0
-no-children t b h = record { only = λ k l u. absurd (omega arith); all = λ k x. absurd (h k x) }
-
-module _ (t : List ℕ) (b : ℕ) where
-  pub past′ : length t ≤ b → Covers t b 0 0
-  past′ h = no-children t b (λ k x. clash (x .child .holder) (past-table t b h))
-
-  module _ (r : Bool) (e : r ≡ isBranch (getD t b 0)) where
-    pub at-leaf′ : not r ≡ true → Covers t b 0 0
-    at-leaf′ q = no-children t b (λ k x. clash (x .child .holder) (sym e ∙ not-true r q))
-
-    module _ (q : not r ≡ false) (f : ℕ) (p : f ≡ firstChild (getD t b 0)) where
-      pub too-early′ : f ≤ b → Covers t b 0 0
-      too-early′ h = no-children t b (λ k x. omega (arith, x .behind))
-
-      module _ (l : b < f) (c : ℕ) (u : c ≡ childCount (getD t b 0)) where
-        pub too-far′ : length t < f + c → Covers t b 0 0
-        too-far′ h = no-children t b (λ k x. omega (arith, x .within))
-
-        pub behind′ : f + c ≤ length t → Covers t b f (f + c)
-        behind′ h =
-            record {
-              only =
-                  λ k low high. record {
-                    child = record { holder = sym e ∙ not-false r q; from = rw (← p) low; below = rw (← p, ← u) high };
-                    behind = rw (← p) l;
-                    within = rw (← p, ← u) h;
-                  };
-              all = λ k x. (rw p (x .child .from), rw (p, u) (x .child .below));
-            }
-
-pub ruleset children-laws = (needs, block-fits′, past′, at-leaf′, too-early′, too-far′, behind′)
-
--- what the loops keep: the children before k do not pass
-abbrev pub Passed : (ℕ → Bool) → ℕ → ℕ → Type 0
-Passed p from k = Before (λ j. p j ≡ false) from k
-
--- the place of a child is a place of the table
+-- the index of a child is an index of the table
 pub below-in : {t : List ℕ} {b k : ℕ} → Below t b k → k < length t
 below-in x = omega (arith, x .child .below, x .within)
 
-module _ (t : List ℕ) (b from to : ℕ) (c : Covers t b from to) (p : ℕ → Bool) (k : ℕ) (inv : Passed p from k) where
-  inside : k < to → k < length t
-  inside h = below-in (c .only k (inv .low) h)
+-- what the loops keep: the nodes before k do not pass
+abbrev pub Passed : (ℕ → Bool) → ℕ → ℕ → Type 0
+Passed p from k = Before (λ j. p j ≡ false) from k
 
-  found : k < to → p k ≡ true → Picks t b p (pick.Child k)
-  found h e = first-one (c .only k (inv .low) h) e (λ j x l. inv .all j (c .all j x .0) l)
+-- the default node of a block
 
-  over : to ≤ k → Picks t b p pick.None
-  over h = not-one (λ j x. inv .all j (c .all j x .0) (omega (arith, c .all j x .1)))
+pub not-past : (t : List ℕ) (k : ℕ) → length t ≤ k → unsaidIn t k ≡ false
+unfolding unsaidIn isDefault
+not-past t k h = rw (List·getD-eq-default t 0 h)
 
--- the child that a word spells
+module _ (t : List ℕ) (from to e : ℕ) where
+  pub default-begins′ : Passed (unsaidIn t) from from
+  default-begins′ = none-yet (λ j. unsaidIn t j ≡ false) from
 
-module _ (t names w : List ℕ) where
-  pub spoken-begins′ : (from : ℕ) → Passed (spokenBy t names w) from from
-  spoken-begins′ from = none-yet (λ j. spokenBy t names w j ≡ false) from
+  module _ (h : e ≡ least to (length t)) (k : ℕ) where
+    pub default-inside′ : k < e → k < length t
+    default-inside′ l = omega (arith, h, least-le to (length t) .1)
 
-  module _ (b from to : ℕ) (c : Covers t b from to) (k : ℕ) (inv : Passed (spokenBy t names w) from k) where
-    pub spoken-inside′ : k < to → k < length t
-    spoken-inside′ = inside t b from to c (spokenBy t names w) k inv
+    pub default-less′ : k < e → (i : ℕ) → i ≡ nextChild t k → e - i < e - k
+    default-less′ l i n = omega (arith, n, next-in′ t k (default-inside′ l))
 
-    pub spoken-over′ : to ≤ k → Picks t b (spokenBy t names w) pick.None
-    spoken-over′ = over t b from to c (spokenBy t names w) k inv
+    module _ (inv : Passed (unsaidIn t) from k) where
+      pub default-over′ : e ≤ k → PicksIn (unsaidIn t) from to pick.None
+      default-over′ l = none-in (λ j low high. go j (less-or-not j k) (not-least to (length t) k (omega (arith, h))) low high)
+        where
+          go : (j : ℕ) → (j < k) ⊎ (k ≤ j) → (to ≤ k) ⊎ (length t ≤ k) → from ≤ j → j < to → unsaidIn t j ≡ false
+          go j (inl x) y low high = inv .all j low x
+          go j (inr x) (inl y) low high = absurd (omega arith)
+          go j (inr x) (inr y) low high = not-past t j (omega arith)
 
-    module _ (x : List ℕ) (e : x ≡ nameIn names (getD t k 0)) (r : Bool) (q : r ≡ matches x w) where
-      pub spoken-found′ : k < to → r ≡ true → Picks t b (spokenBy t names w) (pick.Child k)
-      unfolding spokenBy
-      spoken-found′ h y = found t b from to c (spokenBy t names w) k inv h (rw (← e) (sym q ∙ y))
+      module _ (l : k < e) (r : Bool) (q : r ≡ isDefault (getD t k 0)) where
+        pub default-found′ : r ≡ true → PicksIn (unsaidIn t) from to (pick.Child k)
+        unfolding unsaidIn
+        default-found′ y = first-in (inv .low) (omega (arith, h, least-le to (length t) .0)) (sym q ∙ y) (inv .all)
 
-      pub spoken-more′ : r ≡ false → (i : ℕ) → i ≡ k + 1 → Passed (spokenBy t names w) from i
-      unfolding spokenBy
-      spoken-more′ y i h = one-more (λ j. spokenBy t names w j ≡ false) from k inv (rw (← e) (sym q ∙ y)) i h
+        pub default-more′ : r ≡ false → (i : ℕ) → i ≡ nextChild t k → Passed (unsaidIn t) from i
+        unfolding unsaidIn
+        default-more′ y i n =
+            one-more (λ j. unsaidIn t j ≡ false) from k inv (sym q ∙ y) i (n ∙ sym (next-in′ t k (default-inside′ l)))
 
-pub ruleset spoken-laws = (needs, spoken-begins′, spoken-inside′, spoken-over′, spoken-found′, spoken-more′)
+pub ruleset default-laws = (needs, default-begins′, default-inside′, default-less′, default-over′, default-found′, default-more′)
 
--- the default child
+-- a pick of a block is one of the branch whose children the block has
+module _ (t : List ℕ) (b from to : ℕ) (c : Covers t b from to) (p : ℕ → Bool) where
+  pub picks-covered : (x : Pick) → PicksIn p from to x → Picks t b p x
+  picks-covered (pick.Child k) (first-in low high e f) = first-one (c .only k low high) e (λ j x l. f j (c .all j x .0) l)
+  picks-covered pick.None (none-in f) = not-one (λ j x. f j (c .all j x .0) (c .all j x .1))
 
-module _ (t : List ℕ) where
-  pub default-begins′ : (from : ℕ) → Passed (unsaidIn t) from from
-  default-begins′ from = none-yet (λ j. unsaidIn t j ≡ false) from
+pub picks-children : (t : List ℕ) (b : ℕ) (p : ℕ → Bool) (x : Pick) → PicksIn p (childrenOf t b .from) (childrenOf t b .to) x → Picks t b p x
+picks-children t b p = picks-covered t b (childrenOf t b .from) (childrenOf t b .to) (covers t b) p
 
-  module _ (b from to : ℕ) (c : Covers t b from to) (k : ℕ) (inv : Passed (unsaidIn t) from k) where
-    pub default-inside′ : k < to → k < length t
-    default-inside′ = inside t b from to c (unsaidIn t) k inv
+-- what was picked is a child, in the table and nearer to its end than its branch
+pub picked : {t : List ℕ} {b k : ℕ} {q : ℕ → Bool} → Picks t b q (pick.Child k) → Below t b k
+picked (first-one x e f) = x
 
-    pub default-over′ : to ≤ k → Picks t b (unsaidIn t) pick.None
-    default-over′ = over t b from to c (unsaidIn t) k inv
-
-    module _ (r : Bool) (q : r ≡ isDefault (getD t k 0)) where
-      pub default-found′ : k < to → r ≡ true → Picks t b (unsaidIn t) (pick.Child k)
-      unfolding unsaidIn
-      default-found′ h y = found t b from to c (unsaidIn t) k inv h (sym q ∙ y)
-
-      pub default-more′ : r ≡ false → (i : ℕ) → i ≡ k + 1 → Passed (unsaidIn t) from i
-      unfolding unsaidIn
-      default-more′ y i h = one-more (λ j. unsaidIn t j ≡ false) from k inv (sym q ∙ y) i h
-
-pub ruleset default-laws = (needs, default-begins′, default-inside′, default-over′, default-found′, default-more′)
+pub deeper : {t : List ℕ} {b k : ℕ} {q : ℕ → Bool} → Picks t b q (pick.Child k) → (k < length t) × (length t - k < length t - b)
+deeper x =
+    let y = picked x in
+    let l = below-in y in
+    (l, omega (arith, l, y .behind, y .child .from))

@@ -1,4 +1,4 @@
--- There is always a pick, and a way down.
+-- There is always a pick.
 use Prim.Native.Nat.{ℕ, zero, suc, _+_, _-_, _≤_, _<_}
 use mathlib.Core.Path.{_≡_, refl}
 use mathlib.Core.Logic.{_⊎_, inl, inr}
@@ -8,12 +8,9 @@ use native.Mathlib.Omega.{arith}
 use lib.ListN.{length}
 use Rattle.kind.proofs.Tests.{clash, less-or-not}
 use Rattle.node.specs.Tree.{branch, first, count}
-use Rattle.branch.specs.Children.{Below, spokenBy, unsaidIn, Picks, first-one, not-one}
-use Rattle.branch.specs.Ways.{Finds, here, under, unfound, Settles, at-leaf, onward, unsettled}
+use Rattle.branch.specs.Children.{Below, Picks, first-one, not-one}
 use Rattle.branch.specs.declared.Pick.{Pick}
 use Rattle.branch.specs.declared.Pick.the-variants as pick
-use Rattle.branch.specs.declared.Found.{Found}
-use Rattle.branch.specs.declared.Found.the-variants as found
 use Rattle.branch.proofs.Picks.{below-in}
 
 module _ (t : List ℕ) (b : ℕ) (p : ℕ → Bool) where
@@ -48,36 +45,3 @@ module _ (t : List ℕ) (b : ℕ) (p : ℕ → Bool) where
 -- a child that was picked is nearer to the end of the table than its branch
 pub nearer : {t : List ℕ} {b k f : ℕ} {q : ℕ → Bool} → Picks t b q (pick.Child k) → length t - b < suc f → length t - k < f
 nearer (first-one x e h) l = omega (arith, below-in x, x .behind, x .child .from, l)
-
-module _ (t names w : List ℕ) where
-  found-within : (f b : ℕ) → length t - b < f → (x : Found) × Finds t names w b x
-  found-within zero b l = absurd (omega arith)
-  found-within (suc f) b l =
-      let k = some-pick t b (spokenBy t names w) in
-      let d = some-pick t b (unsaidIn t) in
-      go (k .0) (k .1) (d .0) (d .1) (found-within f)
-    where
-      go : (k : Pick) → Picks t b (spokenBy t names w) k → (d : Pick) → Picks t b (unsaidIn t) d → ((n : ℕ) → length t - n < f → (x : Found) × Finds t names w n x)
-          → (x : Found) × Finds t names w b x
-      go (pick.Child k) x d y rest = (_, here x)
-      go pick.None x (pick.Child d) y rest = let z = rest d (nearer y l) in (z .0, under x y (z .1))
-      go pick.None x pick.None y rest = (_, unfound x y)
-
-  pub some-find : (b : ℕ) → (x : Found) × Finds t names w b x
-  some-find b = found-within (suc (length t - b)) b (omega arith)
-
-module _ (t : List ℕ) where
-  settled-within : (f b : ℕ) → length t - b < f → (x : Pick) × Settles t b x
-  settled-within zero b l = absurd (omega arith)
-  settled-within (suc f) b l = let d = some-pick t b (unsaidIn t) in go (d .0) (d .1) (settled-within f)
-    where
-      go : (d : Pick) → Picks t b (unsaidIn t) d → ((n : ℕ) → length t - n < f → (x : Pick) × Settles t n x) → (x : Pick) × Settles t b x
-      go pick.None y rest = (_, unsettled y)
-      go (pick.Child d) y rest = by-kind (branch t d) refl
-        where
-          by-kind : (c : Bool) → branch t d ≡ c → (x : Pick) × Settles t b x
-          by-kind false m = (_, at-leaf y m)
-          by-kind true m = let z = rest d (nearer y l) in (z .0, onward y m (z .1))
-
-  pub some-leaf : (b : ℕ) → (x : Pick) × Settles t b x
-  some-leaf b = settled-within (suc (length t - b)) b (omega arith)

@@ -1,4 +1,3 @@
 pub mod Children
-pub mod Ways
-pub mod Parts
+pub mod Block
 pub mod Claims

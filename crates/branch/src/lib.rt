@@ -1,10 +1,10 @@
-// The branches of a table and their children: the one that a word spells, and the default one. `exec` of tree/mod.rs of the original
-// looks for these.
+// The branches of a table and their children. What a branch's children are, and how they are gone through, is known here alone. `exec` of
+// tree/mod.rs of the original goes through them.
 ghost use mathlib.Core.Path.{_≡_};
-ghost use Rattle.node.specs.Tree.{branch};
-ghost use Rattle.branch.specs.Children.{spokenBy, unsaidIn, Picks};
-ghost use Rattle.branch.specs.Ways.{Finds, Settles};
-ghost use Rattle.branch.specs.Parts.{Covers};
+ghost use Rattle.util.specs.Decides.{Decides};
+ghost use Rattle.node.specs.Tree.{branch, Child};
+ghost use Rattle.branch.specs.Children.{unsaidIn, PicksIn};
+ghost use Rattle.branch.specs.Block.{blockOf, childrenOf, nextChild};
 
 // The child that was looked for.
 pub enum Pick {
@@ -12,16 +12,10 @@ pub enum Pick {
     None,
 }
 
-// A child that a word spells, and the branch that holds it.
-pub enum Found {
-    Child { holder: usize, child: usize },
-    None,
-}
-
-// The children of a branch: the nodes from one place up to another.
-struct Block {
-    from: usize,
-    to: usize,
+// The children of a branch: the nodes from one index up to another, and not the one there.
+pub struct Block {
+    pub from: usize,
+    pub to: usize,
 }
 
 // Whether a node is a branch of the table.
@@ -34,76 +28,20 @@ pub fn is_branch(nodes: &[u64], b: usize) -> bool
     false
 }
 
-// The first child of a branch that the word spells.
-pub fn spoken_child(nodes: &[u64], names: &[u8], b: usize, word: &[u8]) -> Pick
-    ensures { λ r. ⌜ Picks (now (nodes .entry)) b (spokenBy (now (nodes .entry)) (now (names .entry)) (now (word .entry))) r ⌝ }
+// The block of children that the word of a branch has, wherever that lies.
+pub fn block_of(word: u64) -> Block
+    ensures { λ r. ⌜ r ≡ blockOf word ⌝ }
 {
-    let block = children(nodes, b);
-    let first = block.from;
-    let to = block.to;
-    let mut k = first;
-    while k < to {
-        if mnemonic::mnemonic_match(node::name(names, nodes[k]), word) {
-            return Pick::Child(k);
-        }
-        k += 1;
-    }
-    Pick::None
-}
-
-// The first default child of a branch.
-pub fn default_child(nodes: &[u64], b: usize) -> Pick
-    ensures { λ r. ⌜ Picks (now (nodes .entry)) b (unsaidIn (now (nodes .entry))) r ⌝ }
-{
-    let block = children(nodes, b);
-    let to = block.to;
-    let mut d = block.from;
-    while d < to {
-        if node::is_default(nodes[d]) {
-            return Pick::Child(d);
-        }
-        d += 1;
-    }
-    Pick::None
-}
-
-// The child that a word spells in a branch, or in the default branch inside it, as far down as these go.
-pub fn find(nodes: &[u64], names: &[u8], b: usize, word: &[u8]) -> Found
-    ensures { λ r. ⌜ Finds (now (nodes .entry)) (now (names .entry)) (now (word .entry)) b r ⌝ }
-{
-    match spoken_child(nodes, names, b, word) {
-        Pick::Child(k) => Found::Child {
-            holder: b,
-            child: k,
-        },
-        Pick::None => match default_child(nodes, b) {
-            Pick::None => Found::None,
-            Pick::Child(d) => find(nodes, names, d, word),
-        },
+    let from = node::first_child(word);
+    Block {
+        from,
+        to: from + node::child_count(word),
     }
 }
 
-// The leaf that is reached from a branch by default children alone.
-pub fn default_leaf(nodes: &[u64], b: usize) -> Pick
-    ensures { λ r. ⌜ Settles (now (nodes .entry)) b r ⌝ }
-{
-    let mut at = b;
-    loop {
-        match default_child(nodes, at) {
-            Pick::None => return Pick::None,
-            Pick::Child(d) => {
-                if !node::is_branch(nodes[d]) {
-                    return Pick::Child(d);
-                }
-                at = d;
-            }
-        }
-    }
-}
-
-// Where the children of a branch stand. A block that does not lie behind its branch in the table has none.
-fn children(nodes: &[u64], b: usize) -> Block
-    ensures { λ r. ⌜ Covers (now (nodes .entry)) b (r .from) (r .to) ⌝ }
+// The children of a branch. A block that does not lie after its branch and in the table has none.
+pub fn children(nodes: &[u64], b: usize) -> Block
+    ensures { λ r. ⌜ r ≡ childrenOf (now (nodes .entry)) b ⌝ }
 {
     if nodes.len() <= b {
         return Block { from: 0, to: 0 };
@@ -112,16 +50,55 @@ fn children(nodes: &[u64], b: usize) -> Block
     if !node::is_branch(word) {
         return Block { from: 0, to: 0 };
     }
-    let first = node::first_child(word);
-    if first <= b {
+    let block = block_of(word);
+    if block.from <= b {
         return Block { from: 0, to: 0 };
     }
-    let end = first + node::child_count(word);
-    if nodes.len() < end {
+    if nodes.len() < block.to {
         return Block { from: 0, to: 0 };
     }
-    Block {
-        from: first,
-        to: end,
+    block
+}
+
+// The child after a child.
+pub fn next_child(nodes: &[u64], k: usize) -> usize
+    ensures { λ r. ⌜ r ≡ nextChild (now (nodes .entry)) k ⌝ }
+{
+    if k < nodes.len() {
+        return k + 1;
     }
+    k
+}
+
+// The first default node of a block.
+pub fn default_in(nodes: &[u64], from: usize, to: usize) -> Pick
+    ensures { λ r. ⌜ PicksIn (unsaidIn (now (nodes .entry))) from to r ⌝ }
+{
+    let end = util::least(to, nodes.len());
+    let mut d = from;
+    while d < end {
+        if node::is_default(nodes[d]) {
+            return Pick::Child(d);
+        }
+        d = next_child(nodes, d);
+    }
+    Pick::None
+}
+
+// Whether a node is a child of a branch.
+pub fn is_child(nodes: &[u64], b: usize, k: usize) -> bool
+    ensures { λ r. ⌜ Decides (Child (now (nodes .entry)) b k) r ⌝ }
+{
+    if nodes.len() <= b {
+        return false;
+    }
+    let word = nodes[b];
+    if !node::is_branch(word) {
+        return false;
+    }
+    let block = block_of(word);
+    if k < block.from {
+        return false;
+    }
+    k < block.to
 }

@@ -4,3 +4,4 @@ pub mod Numbers
 pub mod NumberForms
 pub mod Claims
 pub mod Progress
+pub mod ByEnd

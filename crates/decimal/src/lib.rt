@@ -50,7 +50,7 @@ fn read_suffix_data(s: &[u8], number: View) -> Read
         );
     }
     let end = suffix_end(s, at);
-    if 12 < end - at {
+    if item::LONGEST_MNEMONIC < end - at {
         return Read::Refused(ErrorCode::SuffixTooLong);
     }
     item::skip_ws_to_separator(

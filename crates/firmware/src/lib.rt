@@ -98,7 +98,7 @@ pub extern "C" fn vinderaz_walk_accepted(
 pub extern "C" fn vinderaz_token(text: &[u8], words: &mut [u64]) -> i16
     ensures { λ r. ⌜ record { code = r; words = now (words .exit) } ≡ tokenStep (now (text .entry)) (now (words .entry)) ⌝ }
 {
-    if words.len() < 8 {
+    if words.len() < words::STEP_WORDS {
         return ErrorCode::NoSlotLeft.get_code();
     }
     let state = words::token_state(words);
@@ -110,7 +110,7 @@ pub extern "C" fn vinderaz_token(text: &[u8], words: &mut [u64]) -> i16
 pub extern "C" fn vinderaz_channel_list(text: &[u8], words: &mut [u64]) -> i16
     ensures { λ r. ⌜ record { code = r; words = now (words .exit) } ≡ openStep (now (text .entry)) (now (words .entry)) ⌝ }
 {
-    if words.len() < 8 {
+    if words.len() < words::STEP_WORDS {
         return ErrorCode::NoSlotLeft.get_code();
     }
     words::put_opened(words, text.len(), channel_list::new(text))
@@ -121,7 +121,7 @@ pub extern "C" fn vinderaz_channel_list(text: &[u8], words: &mut [u64]) -> i16
 pub extern "C" fn vinderaz_channel(text: &[u8], words: &mut [u64]) -> i16
     ensures { λ r. ⌜ record { code = r; words = now (words .exit) } ≡ channelStep (now (text .entry)) (now (words .entry)) ⌝ }
 {
-    if words.len() < 8 {
+    if words.len() < words::STEP_WORDS {
         return ErrorCode::NoSlotLeft.get_code();
     }
     let state = words::channel_state(words);
@@ -133,7 +133,7 @@ pub extern "C" fn vinderaz_channel(text: &[u8], words: &mut [u64]) -> i16
 pub extern "C" fn vinderaz_numeric(text: &[u8], words: &mut [u64]) -> i16
     ensures { λ r. ⌜ record { code = r; words = now (words .exit) } ≡ numericStep (now (text .entry)) (now (words .entry)) ⌝ }
 {
-    if words.len() < 8 {
+    if words.len() < words::STEP_WORDS {
         return ErrorCode::NoSlotLeft.get_code();
     }
     let state = words::numeric_state(words);

@@ -9,8 +9,8 @@ claims =
     record {
       some-answer = some-beginning;
       one-answer = λ t names s b seen. one-begins;
-      onward = λ t names s b c query kept x seen st h. (begins-sound h) .0;
-      over = λ t names s b c query kept seen st h. (begins-sound h) .3;
-      command-fits = λ t names s b c query kept x seen st h. (begins-sound h) .2;
-      keeps = λ t names s b c query kept x seen st h. (begins-sound h) .1;
+      onward = λ t names s b c query kept x seen p h. (begins-sound h) .0;
+      over = λ t names s b c query kept seen p h. (begins-sound h) .3;
+      command-fits = λ t names s b c query kept x seen p h. (begins-sound h) .2;
+      keeps = λ t names s b c query kept x seen p h. (begins-sound h) .1;
     }

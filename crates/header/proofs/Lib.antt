@@ -1,7 +1,13 @@
 -- Laws that belong to no one function.
+pub mod Places
+pub mod Looks
 pub mod Tokens
-pub mod Descents
-pub mod Entries
+pub mod Mnemonics
+pub mod Endings
+pub mod Settled
+pub mod Inverse
+pub mod Walks
+pub mod Fronts
 pub mod Once
 pub mod Some
 pub mod Onward

@@ -7,22 +7,22 @@ use lib.ListN.{getD}
 use Rattle.error.specs.declared.ErrorCode.{ErrorCode}
 use Rattle.error.specs.declared.ErrorCode.the-variants as refusal
 use Rattle.kind.proofs.Tests.{clash}
-use Rattle.node.specs.Word.{commandNumber}
 use Rattle.node.specs.Tree.{branch}
-use Rattle.branch.specs.Children.{spokenBy, unsaidIn, Picks}
+use Rattle.branch.specs.Children.{unsaidIn, Picks}
 use Rattle.branch.specs.declared.Pick.the-variants as pick
 use Rattle.branch.proofs.Once.{one-child, no-child}
 use Rattle.token.specs.View.{partOf}
 use Rattle.token.specs.declared.View.{View}
 use Rattle.tokenizer.specs.declared.State.{State}
+use Rattle.spoken.specs.Spoken.{spokenBy}
 use Rattle.ahead.specs.Seen.{seenWith, seenAt}
 use Rattle.header.specs.Header.{leafAnswer, turnOf, undefined, Reads, leaf, refused, said, unsaid, unknown, ended, nowhere, isCommon, keeping, Begins, no-branch, first-refused, no-header, no-question, from-root, common, from-branch}
 use Rattle.ahead.specs.declared.Stop.{Stop}
 use Rattle.ahead.specs.declared.Ahead.{Ahead}
 use Rattle.ahead.specs.declared.Ahead.the-variants as ahead
 use Rattle.ahead.specs.declared.Seen.{Seen}
-use Rattle.header.specs.declared.Turn.{Turn}
-use Rattle.header.specs.declared.Turn.the-variants as turn
+use Rattle.header.specs.Turn.{Turn}
+use Rattle.header.specs.Turn as turn
 use Rattle.header.specs.declared.Header.{Header}
 use Rattle.header.specs.declared.Header.the-variants as header
 
@@ -51,7 +51,7 @@ module _ {t names s : List ℕ} {h n : ℕ} {seen : Seen} where
   at-turn : {r : Header} {x : Turn} → branch t n ≡ true → turnOf s seen ≡ x → Reads t names s h n seen r → Turned t names s h n seen x r
   at-turn m e y = rw e at (turned m y)
 
-  at-leaf : {r : Header} → branch t n ≡ false → Reads t names s h n seen r → r ≡ leafAnswer s (commandNumber (getD t n 0)) h seen
+  at-leaf : {r : Header} → branch t n ≡ false → Reads t names s h n seen r → r ≡ leafAnswer s (getD t n 0) h seen
   at-leaf m (leaf l) = refl
   at-leaf m (refused l e) = clash l m
   at-leaf m (said l e k r) = clash l m

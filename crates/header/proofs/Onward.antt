@@ -2,7 +2,7 @@
 -- text ended it, has that end behind it.
 use Prim.Native.Nat.{ℕ, _≤_, _<_}
 use mathlib.Core.Path.{_≡_, refl, sym, ap, subst}
-use mathlib.Core.Logic.{⊎-elim}
+use mathlib.Core.Logic.{_⊎_, inl, inr, ⊎-elim}
 use mathlib.Core.List.{List}
 use mathlib.Core.Bool.{true}
 use native.Mathlib.Omega.{arith}
@@ -26,8 +26,8 @@ use Rattle.ahead.specs.declared.Stop.the-variants as stop
 use Rattle.ahead.specs.declared.Ahead.{Ahead}
 use Rattle.ahead.specs.declared.Ahead.the-variants as ahead
 use Rattle.ahead.specs.declared.Seen.{Seen}
-use Rattle.header.specs.declared.Turn.{Turn}
-use Rattle.header.specs.declared.Turn.the-variants as turn
+use Rattle.header.specs.Turn.{Turn}
+use Rattle.header.specs.Turn as turn
 use Rattle.header.specs.declared.Header.{Header}
 use Rattle.header.specs.declared.Header.the-variants as header
 
@@ -35,20 +35,20 @@ use Rattle.header.specs.declared.Header.the-variants as header
 abbrev Keeps : List ℕ → ℕ → Type 0
 Keeps t kept = branch t 0 ≡ true → branch t kept ≡ true
 
--- where the end of the text ended the header, it stands behind it still
-abbrev Over : List ℕ → Stop → State → Type 0
-Over s stop.Text st = (step s st) .answer ≡ answer.End
-Over s stop.Unit st = Unit {0}
-Over s stop.Separator st = Unit {0}
+-- where the end of the text ended the header, the place is there
+abbrev Over : List ℕ → Stop → ℕ → Type 0
+Over s stop.Text p = length s ≤ p
+Over s stop.Unit p = Unit {0}
+Over s stop.Separator p = Unit {0}
 
 -- what is so of a header that is found, where the text was read up to the place p
 abbrev pub Sound : List ℕ → List ℕ → ℕ → Header → Type 0
-Sound t s p (header.Found c query kept x st) = (p ≤ st .place) × Keeps t kept × (c < 65536) × Over s x st
+Sound t s p (header.Found c query kept x q) = (p ≤ q) × Keeps t kept × (c < 65536) × Over s x q
 Sound t s p (header.Refused e) = Unit {0}
 
 -- what is seen was seen in the text
 abbrev Genuine : List ℕ → State → Ahead → Type 0
-Genuine s st (ahead.Stop x) = Over s x st
+Genuine s st (ahead.Stop x) = Over s x (st .place)
 Genuine s st (ahead.Word w) = Unit {0}
 Genuine s st ahead.Colon = Unit {0}
 Genuine s st ahead.Query = Unit {0}
@@ -91,14 +91,18 @@ genuine-at s st = go ((step s st) .answer) refl
   where
     go : (a : Answer) → (step s st) .answer ≡ a → Genuine s ((step s st) .state) (aheadOf a)
     go (answer.Token t) e = genuine-token s _ t
-    go answer.End e = ap (λ (x : Step). x .answer) (claims .end-stays s st e)
+    go answer.End e = at-end (less-or-not ((step s st) .state .place) (length s))
+      where
+        at-end : ((step s st) .state .place < length s) ⊎ (length s ≤ (step s st) .state .place) → length s ≤ (step s st) .state .place
+        at-end (inl l) = absurd (omega (arith, claims .moves s ((step s st) .state) l, ap (λ (x : Step). x .state .place) (claims .end-stays s st e)))
+        at-end (inr l) = l
     go (answer.Refused c) e = tt
 
 sooner : (t s : List ℕ) (p q : ℕ) (r : Header) → p ≤ q → Sound t s q r → Sound t s p r
-sooner t s p q (header.Found c query kept x st) l h = (let k = h .0 in omega (arith, l, k), h .1, h .2, h .3)
+sooner t s p q (header.Found c query kept x z) l h = (let k = h .0 in omega (arith, l, k), h .1, h .2, h .3)
 sooner t s p q (header.Refused e) l h = tt
 
-module _ (t s : List ℕ) (c h : ℕ) (b : Keeps t h) (f : c < 65536) where
+module _ (t s : List ℕ) (c h : ℕ) (b : Keeps t h) (f : commandNumber c < 65536) where
   query-sound : (p : ℕ) (seen : Seen) → p ≤ seen .state .place → Genuine s (seen .state) (seen .ahead) → Sound t s p (queryAnswer c h seen)
   unfolding queryAnswer
   query-sound p seen l g = go (seen .ahead) g
@@ -152,7 +156,7 @@ command-fits w = omega arith
 
 module _ {t names s : List ℕ} where
   pub reads-sound : {h n : ℕ} {seen : Seen} {r : Header} → Keeps t h → Genuine s (seen .state) (seen .ahead) → Reads t names s h n seen r → Sound t s (seen .state .place) r
-  reads-sound {h} {n} {seen} b g (leaf m) = leaf-sound t s (commandNumber (getD t n 0)) h b (command-fits (getD t n 0)) seen g
+  reads-sound {h} {n} {seen} b g (leaf m) = leaf-sound t s (getD t n 0) h b (command-fits (getD t n 0)) seen g
   reads-sound b g (refused m e) = tt
   reads-sound {h} {n} {seen} {r} b g (said {st = st} m e k x) =
       sooner t s _ _ r (omega (arith, word-onward s seen e, look-onward s st)) (reads-sound (λ _. m) (genuine-at s st) x)
@@ -162,7 +166,7 @@ module _ {t names s : List ℕ} where
   reads-sound b g (nowhere m e d) = tt
 
 keeping-sound : (t s : List ℕ) (p b : ℕ) (r : Header) → branch t b ≡ true → Sound t s p r → Sound t s p (keeping b r)
-keeping-sound t s p b (header.Found c query kept x st) m h = (h .0, (λ _. m), h .2, h .3)
+keeping-sound t s p b (header.Found c query kept x z) m h = (h .0, (λ _. m), h .2, h .3)
 keeping-sound t s p b (header.Refused e) m h = tt
 
 -- a word is no end of the text

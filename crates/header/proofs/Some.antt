@@ -6,20 +6,21 @@ use mathlib.Core.Bool.{Bool, true, false}
 use native.Mathlib.Omega.{arith}
 use lib.ListN.{length}
 use Rattle.node.specs.Tree.{branch}
-use Rattle.branch.specs.Children.{spokenBy, unsaidIn, Picks}
+use Rattle.branch.specs.Children.{unsaidIn, Picks}
 use Rattle.branch.specs.declared.Pick.{Pick}
 use Rattle.branch.specs.declared.Pick.the-variants as pick
 use Rattle.branch.proofs.Some.{some-pick, nearer}
 use Rattle.token.specs.View.{partOf}
 use Rattle.token.specs.declared.View.{View}
 use Rattle.tokenizer.specs.declared.State.{State}
+use Rattle.spoken.specs.Spoken.{spokenBy}
 use Rattle.ahead.specs.Seen.{seenWith, seenAt}
 use Rattle.header.specs.Header.{turnOf, Reads, leaf, refused, said, unsaid, unknown, ended, nowhere, isCommon, Begins, no-branch, first-refused, no-header, no-question, from-root, common, from-branch}
 use Rattle.ahead.specs.declared.Ahead.{Ahead}
 use Rattle.ahead.specs.declared.Ahead.the-variants as ahead
 use Rattle.ahead.specs.declared.Seen.{Seen}
-use Rattle.header.specs.declared.Turn.{Turn}
-use Rattle.header.specs.declared.Turn.the-variants as turn
+use Rattle.header.specs.Turn.{Turn}
+use Rattle.header.specs.Turn as turn
 use Rattle.header.specs.declared.Header.{Header}
 
 module _ (t names s : List ℕ) where

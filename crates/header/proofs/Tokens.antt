@@ -2,40 +2,39 @@
 use Prim.Native.Nat.{ℕ}
 use mathlib.Core.Path.{_≡_, sym, ap, _∙_}
 use mathlib.Core.List.{List}
+use mathlib.Core.Bool.{Bool}
 use borrow.Author.Needs.{needs}
 use Rattle.tokenizer.specs.declared.State.{State}
 use Rattle.ahead.specs.Seen.{seenAt}
-use Rattle.header.specs.Header.{behindQuery, queryAnswer, atLeaf, leafAnswer, wordBehind, behindColon, atBranch, turnOf}
 use Rattle.ahead.specs.declared.Ahead.{Ahead}
 use Rattle.ahead.specs.declared.Seen.{Seen}
-use Rattle.header.specs.declared.Turn.{Turn}
+use Rattle.header.specs.Header.{behindQuery, queryAnswer, atLeaf, leafAnswer}
+use Rattle.header.specs.Internal.{aheadAt, isEnding, refusedBy}
 use Rattle.header.specs.declared.Header.{Header}
 
--- at a leaf, behind a question mark, behind a colon and at a branch, told by what is ahead
+-- at a leaf and after a question mark, by what is ahead
 
 module _ (seen : Seen) (y : Ahead) (q : seen .ahead ≡ y) where
-  pub query-told′ : (c h : ℕ) (r : Header) → r ≡ behindQuery c h (seen .state) y → r ≡ queryAnswer c h seen
+  pub query-by′ : (c h : ℕ) (r : Header) → r ≡ behindQuery c h (seen .state) y → r ≡ queryAnswer c h seen
   unfolding queryAnswer
-  query-told′ c h r p = p ∙ ap (behindQuery c h (seen .state)) (sym q)
+  query-by′ c h r p = p ∙ ap (behindQuery c h (seen .state)) (sym q)
 
-  pub colon-told′ : (r : Turn) → r ≡ wordBehind (seen .state) y → r ≡ behindColon seen
-  unfolding behindColon
-  colon-told′ r p = p ∙ ap (wordBehind (seen .state)) (sym q)
+  pub leaf-by′ : (s : List ℕ) (c h : ℕ) (r : Header) → r ≡ atLeaf s c h (seen .state) y → r ≡ leafAnswer s c h seen
+  unfolding leafAnswer
+  leaf-by′ s c h r p = p ∙ ap (atLeaf s c h (seen .state)) (sym q)
 
-  module _ (s : List ℕ) where
-    pub leaf-told′ : (c h : ℕ) (r : Header) → r ≡ atLeaf s c h (seen .state) y → r ≡ leafAnswer s c h seen
-    unfolding leafAnswer
-    leaf-told′ c h r p = p ∙ ap (atLeaf s c h (seen .state)) (sym q)
+pub next-query′ : (s : List ℕ) (st : State) (x : Seen) → x ≡ seenAt s st → (c h : ℕ) (r : Header) → r ≡ queryAnswer c h x → r ≡ queryAnswer c h (seenAt s st)
+next-query′ s st x e c h r p = rw (← e) p
 
-    pub turn-told′ : (r : Turn) → r ≡ atBranch s (seen .state) y → r ≡ turnOf s seen
-    unfolding turnOf
-    turn-told′ r p = p ∙ ap (atBranch s (seen .state)) (sym q)
+pub ruleset leaf-laws = (needs, query-by′, leaf-by′, next-query′)
 
-module _ (s : List ℕ) (st : State) (x : Seen) (e : x ≡ seenAt s st) where
-  pub next-colon′ : (r : Turn) → r ≡ behindColon x → r ≡ behindColon (seenAt s st)
-  next-colon′ r h = rw (← e) h
+-- whether the header ends, and why it leads nowhere, by what is ahead
 
-  pub next-query′ : (c h : ℕ) (r : Header) → r ≡ queryAnswer c h x → r ≡ queryAnswer c h (seenAt s st)
-  next-query′ c h r p = rw (← e) p
+module _ (s : List ℕ) (p : ℕ) (c : Bool) (x : Seen) (e : x ≡ aheadAt s p c) (y : Ahead) (q : x .ahead ≡ y) where
+  pub ending-by′ : (r : Bool) → r ≡ isEnding y → r ≡ isEnding (aheadAt s p c .ahead)
+  ending-by′ r h = h ∙ sym (ap isEnding (ap (λ (z : Seen). z .ahead) (sym e) ∙ q))
 
-pub ruleset told-laws = (needs, query-told′, colon-told′, leaf-told′, turn-told′, next-colon′, next-query′)
+  pub refused-by′ : (r : Header) → r ≡ refusedBy y → r ≡ refusedBy (aheadAt s p c .ahead)
+  refused-by′ r h = h ∙ sym (ap refusedBy (ap (λ (z : Seen). z .ahead) (sym e) ∙ q))
+
+pub ruleset token-laws = (needs, ending-by′, refused-by′)

@@ -3,10 +3,8 @@ use Prim.Native.Nat.{ℕ, _≤_, _<_}
 use mathlib.Core.Path.{_≡_}
 use mathlib.Core.List.{List}
 use mathlib.Core.Bool.{Bool, true}
+use lib.ListN.{length}
 use Rattle.node.specs.Tree.{branch}
-use Rattle.tokenizer.specs.Step.{step}
-use Rattle.tokenizer.specs.declared.Answer.the-variants.{End}
-use Rattle.tokenizer.specs.declared.State.{State}
 use Rattle.header.specs.Header.{Begins}
 use Rattle.ahead.specs.declared.Seen.{Seen}
 use Rattle.ahead.specs.declared.Stop.{Stop}
@@ -19,14 +17,14 @@ pub record Claims : Type 0 where
   pub some-answer : (t names s : List ℕ) (b : ℕ) (seen : Seen) → (r : Header) × Begins t names s b seen r
   pub one-answer : (t names s : List ℕ) (b : ℕ) (seen : Seen) (r q : Header) → Begins t names s b seen r → Begins t names s b seen q → r ≡ q
   -- a header that is found does not go back in the text
-  pub onward : (t names s : List ℕ) (b c : ℕ) (query : Bool) (kept : ℕ) (x : Stop) (seen : Seen) (st : State) → Begins t names s b seen (header.Found c query kept x st)
-      → seen .state .place ≤ st .place
-  -- a header that the end of the text ended has that end behind it
-  pub over : (t names s : List ℕ) (b c : ℕ) (query : Bool) (kept : ℕ) (seen : Seen) (st : State) → Begins t names s b seen (header.Found c query kept stop.Text st)
-      → (step s st) .answer ≡ End
+  pub onward : (t names s : List ℕ) (b c : ℕ) (query : Bool) (kept : ℕ) (x : Stop) (seen : Seen) (p : ℕ) → Begins t names s b seen (header.Found c query kept x p)
+      → seen .state .place ≤ p
+  -- after a header that ends with the text, the place is at the end of the text
+  pub over : (t names s : List ℕ) (b c : ℕ) (query : Bool) (kept : ℕ) (seen : Seen) (p : ℕ) → Begins t names s b seen (header.Found c query kept stop.Text p)
+      → length s ≤ p
   -- its command has 16 bits
-  pub command-fits : (t names s : List ℕ) (b c : ℕ) (query : Bool) (kept : ℕ) (x : Stop) (seen : Seen) (st : State) → Begins t names s b seen (header.Found c query kept x st)
+  pub command-fits : (t names s : List ℕ) (b c : ℕ) (query : Bool) (kept : ℕ) (x : Stop) (seen : Seen) (p : ℕ) → Begins t names s b seen (header.Found c query kept x p)
       → c < 65536
   -- and, in a table whose root is a branch, it keeps a branch
-  pub keeps : (t names s : List ℕ) (b c : ℕ) (query : Bool) (kept : ℕ) (x : Stop) (seen : Seen) (st : State) → Begins t names s b seen (header.Found c query kept x st)
+  pub keeps : (t names s : List ℕ) (b c : ℕ) (query : Bool) (kept : ℕ) (x : Stop) (seen : Seen) (p : ℕ) → Begins t names s b seen (header.Found c query kept x p)
       → branch t 0 ≡ true → branch t kept ≡ true

@@ -11,18 +11,19 @@ use Rattle.error.specs.declared.ErrorCode.the-variants as refusal
 use Rattle.util.specs.Run.{standsAt}
 use Rattle.node.specs.Word.{commandNumber}
 use Rattle.node.specs.Tree.{branch}
-use Rattle.branch.specs.Children.{spokenBy, unsaidIn, Picks}
+use Rattle.branch.specs.Children.{unsaidIn, Picks}
 use Rattle.branch.specs.declared.Pick.the-variants as pick
 use Rattle.token.specs.View.{partOf}
 use Rattle.token.specs.declared.View.{View}
 use Rattle.tokenizer.specs.declared.State.{State}
+use Rattle.spoken.specs.Spoken.{spokenBy}
 use Rattle.ahead.specs.Seen.{seenWith, seenAt}
 use Rattle.ahead.specs.declared.Stop.{Stop}
 use Rattle.ahead.specs.declared.Ahead.{Ahead}
 use Rattle.ahead.specs.declared.Ahead.the-variants as ahead
 use Rattle.ahead.specs.declared.Seen.{Seen}
-use Rattle.header.specs.declared.Turn.{Turn}
-use Rattle.header.specs.declared.Turn.the-variants as turn
+use Rattle.header.specs.Turn.{Turn}
+use Rattle.header.specs.Turn as turn
 use Rattle.header.specs.declared.Header.{Header}
 use Rattle.header.specs.declared.Header.the-variants as header
 
@@ -30,29 +31,29 @@ use Rattle.header.specs.declared.Header.the-variants as header
 abbrev pub undefined : Header
 undefined = header.Refused refusal.UndefinedHeader
 
--- IEEE 488.2 7.6.2: behind a question mark the header ends. The token step lets nothing else stand there; it would be -102.
+-- IEEE 488.2 7.6.2: after a question mark the header ends. The token step lets nothing else follow; it would be -102.
 abbrev pub behindQuery : ℕ → ℕ → State → Ahead → Header
-behindQuery c h st (ahead.Stop x) = header.Found c true h x st
-behindQuery c h st (ahead.Refused e) = header.Refused e
-behindQuery c h st ahead.Query = header.Refused refusal.SyntaxError
-behindQuery c h st (ahead.Word w) = header.Refused refusal.SyntaxError
-behindQuery c h st ahead.Colon = header.Refused refusal.SyntaxError
+behindQuery leaf h st (ahead.Stop x) = header.Found (commandNumber leaf) true h x (st .place)
+behindQuery leaf h st (ahead.Refused e) = header.Refused e
+behindQuery leaf h st ahead.Query = header.Refused refusal.SyntaxError
+behindQuery leaf h st (ahead.Word w) = header.Refused refusal.SyntaxError
+behindQuery leaf h st ahead.Colon = header.Refused refusal.SyntaxError
 
 unfoldable pub queryAnswer : ℕ → ℕ → Seen → Header
-queryAnswer c h seen = behindQuery c h (seen .state) (seen .ahead)
+queryAnswer leaf h seen = behindQuery leaf h (seen .state) (seen .ahead)
 
--- IEEE 488.2 7.6: at a leaf with the command c the header ends, with a question mark or without; or it goes on, and is -113.
+-- IEEE 488.2 7.6: at a leaf, given by its node word, the header ends, with a question mark or without; or it goes on, and is -113.
 abbrev pub atLeaf : List ℕ → ℕ → ℕ → State → Ahead → Header
-atLeaf s c h st (ahead.Stop x) = header.Found c false h x st
-atLeaf s c h st ahead.Query = queryAnswer c h (seenAt s st)
-atLeaf s c h st (ahead.Refused e) = header.Refused e
-atLeaf s c h st (ahead.Word w) = undefined
-atLeaf s c h st ahead.Colon = undefined
+atLeaf s leaf h st (ahead.Stop x) = header.Found (commandNumber leaf) false h x (st .place)
+atLeaf s leaf h st ahead.Query = queryAnswer leaf h (seenAt s st)
+atLeaf s leaf h st (ahead.Refused e) = header.Refused e
+atLeaf s leaf h st (ahead.Word w) = undefined
+atLeaf s leaf h st ahead.Colon = undefined
 
 unfoldable pub leafAnswer : List ℕ → ℕ → ℕ → Seen → Header
-leafAnswer s c h seen = atLeaf s c h (seen .state) (seen .ahead)
+leafAnswer s leaf h seen = atLeaf s leaf h (seen .state) (seen .ahead)
 
--- IEEE 488.2 7.6.1: behind a colon stands a word, or the header is -110. The token step lets only a word, or the end of the text, stand there.
+-- IEEE 488.2 7.6.1: after a colon a mnemonic follows, or the header is -110. The token step lets only a mnemonic, or the end of the text, follow.
 abbrev pub wordBehind : State → Ahead → Turn
 wordBehind st (ahead.Word w) = turn.Word w st
 wordBehind st (ahead.Refused e) = turn.Refused e
@@ -63,7 +64,7 @@ wordBehind st ahead.Colon = turn.Refused refusal.CommandHeaderError
 unfoldable pub behindColon : Seen → Turn
 behindColon seen = wordBehind (seen .state) (seen .ahead)
 
--- IEEE 488.2 7.6.1: at a branch the header ends, or a word stands there, with a colon before it or not.
+-- IEEE 488.2 7.6.1: at a branch the header ends, or a mnemonic follows, with a colon before it or not.
 abbrev pub atBranch : List ℕ → State → Ahead → Turn
 atBranch s st (ahead.Word w) = turn.Word w st
 atBranch s st (ahead.Stop x) = turn.Stop
@@ -77,7 +78,7 @@ turnOf s seen = atBranch s (seen .state) (seen .ahead)
 -- Reads h n seen r: the answer r from the node n on, with what is seen ahead. The branch kept so far is h: it holds the node that was
 -- spoken last, or is where the header starts.
 pub data Reads (t names s : List ℕ) : ℕ → ℕ → Seen → Header → Type 0 where
-  leaf : {h n : ℕ} {seen : Seen} → branch t n ≡ false → Reads t names s h n seen (leafAnswer s (commandNumber (getD t n 0)) h seen)
+  leaf : {h n : ℕ} {seen : Seen} → branch t n ≡ false → Reads t names s h n seen (leafAnswer s (getD t n 0) h seen)
   -- a token that is refused at a branch
   refused : {h n : ℕ} {seen : Seen} {e : ErrorCode} → branch t n ≡ true → turnOf s seen ≡ turn.Refused e → Reads t names s h n seen (header.Refused e)
   -- a word that is spoken for a child; the header goes on from there with the next token
@@ -105,7 +106,7 @@ isCommon s w = standsAt (code "*") (partOf s w) 0
 
 -- the same answer, with the branch b kept
 abbrev pub keeping : ℕ → Header → Header
-keeping b (header.Found c q kept x st) = header.Found c q b x st
+keeping b (header.Found c q kept x p) = header.Found c q b x p
 keeping b (header.Refused e) = header.Refused e
 
 -- The header of a unit from the branch b on, with its first token seen.

@@ -1,3 +1,4 @@
+pub mod Turn
 pub mod Header
-pub mod Parts
+pub mod Internal
 pub mod Claims

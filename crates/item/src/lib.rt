@@ -8,6 +8,12 @@ use error::ErrorCode;
 use token::Token;
 use token::View;
 
+// Mnemonics, character data and suffixes have at most so many bytes, a star counted.
+pub const LONGEST_MNEMONIC: usize = 12;
+
+// So many bytes tell one of the longest from one that is too long.
+const NEAR: usize = 13;
+
 // A token and the place behind it, with the white space behind an item of data passed; or a refusal.
 pub enum Read {
     Token { token: Token, next: usize },
@@ -19,7 +25,7 @@ pub fn read_mnemonic(s: &[u8], at: usize) -> Read
     ensures { λ r. ⌜ r ≡ mnemonic (now (s .entry)) at ⌝ }
 {
     let end = mnemonic_end(s, star_end(s, at));
-    if 12 < end - at {
+    if LONGEST_MNEMONIC < end - at {
         return Read::Refused(ErrorCode::ProgramMnemonicTooLong);
     }
     Read::Token {
@@ -33,7 +39,7 @@ pub fn read_character_data(s: &[u8], at: usize) -> Read
     ensures { λ r. ⌜ r ≡ characterData (now (s .entry)) at ⌝ }
 {
     let end = mnemonic_end(s, at);
-    if 12 < end - at {
+    if LONGEST_MNEMONIC < end - at {
         return Read::Refused(ErrorCode::CharacterDataTooLong);
     }
     skip_ws_to_separator(
@@ -103,8 +109,8 @@ pub fn near_end(s: &[u8], at: usize) -> usize
     if s.len() <= at {
         return s.len();
     }
-    if s.len() - at < 13 {
+    if s.len() - at < NEAR {
         return s.len();
     }
-    at + 13
+    at + NEAR
 }

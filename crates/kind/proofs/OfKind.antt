@@ -4,7 +4,7 @@ use mathlib.Core.Path.{_≡_, refl}
 use mathlib.Core.Bool.{Bool, true, cond, _||_}
 use lib.Dec.{eqb}
 use Rattle.kind.specs.Class.{is, isWhiteSpace, isCapital, isSmall, isDigit, isLetter, inMnemonic, isSign, isQuote, isAscii}
-use Rattle.kind.specs.Kind.{kindOf, blank, star, small, capital}
+use Rattle.kind.specs.Kind.{kindOf, blank, star, colon, small, capital}
 use Rattle.kind.proofs.Tests.{by-test, or-left, or-right}
 
 -- a class that the bytes of a kind are of; for the kinds that are not named here, any byte at all
@@ -12,7 +12,8 @@ abbrev classOf : ℕ → ℕ → Bool
 classOf k b =
     cond (eqb k blank) (isWhiteSpace b)
     (cond (eqb k star) (is "*" b)
-    (cond (eqb k small || eqb k capital) (isLetter b) true))
+    (cond (eqb k colon) (is ":" b)
+    (cond (eqb k small || eqb k capital) (isLetter b) true)))
 
 module _ (b : ℕ) where
   -- each byte is of the class of its kind
@@ -22,7 +23,7 @@ module _ (b : ℕ) where
       by-test P (is "\n" b) (λ e. refl)
       (λ _. by-test P (isWhiteSpace b) (λ e. e)
       (λ _. by-test P (is "*" b) (λ e. e)
-      (λ _. by-test P (is ":" b) (λ e. refl)
+      (λ _. by-test P (is ":" b) (λ e. e)
       (λ _. by-test P (is "?" b) (λ e. refl)
       (λ _. by-test P (is ";" b) (λ e. refl)
       (λ _. by-test P (is "," b) (λ e. refl)
@@ -46,12 +47,21 @@ module _ (b : ℕ) where
   pub star-is : kindOf b ≡ star → is "*" b ≡ true
   star-is e = rw e at of-its-class
 
+  pub colon-is : kindOf b ≡ colon → is ":" b ≡ true
+  colon-is e = rw e at of-its-class
+
+  pub small-letter : kindOf b ≡ small → isLetter b ≡ true
+  small-letter e = rw e at of-its-class
+
+  pub capital-letter : kindOf b ≡ capital → isLetter b ≡ true
+  capital-letter e = rw e at of-its-class
+
   letter-in : isLetter b ≡ true → inMnemonic b ≡ true
   unfolding inMnemonic
   letter-in e = or-left (isDigit b || is "_" b) e
 
   pub small-in : kindOf b ≡ small → inMnemonic b ≡ true
-  small-in e = letter-in (rw e at of-its-class)
+  small-in e = letter-in (small-letter e)
 
   pub capital-in : kindOf b ≡ capital → inMnemonic b ≡ true
-  capital-in e = letter-in (rw e at of-its-class)
+  capital-in e = letter-in (capital-letter e)

@@ -13,9 +13,11 @@ use borrow.Author.Tests.{not-true, eqb-false, ne-eqb}
 use Rattle.kind.proofs.Tests.{clash, less-or-not}
 use Rattle.util.specs.Decides.{Decides, holds}
 use Rattle.util.proofs.Decided.{by-both}
-use Rattle.node.specs.Word.{isBranch, firstChild, childCount}
+use Rattle.node.specs.Word.{isBranch}
 use Rattle.node.specs.Tree.{branch, first}
-use Rattle.node.proofs.Laws.{block-fits′, past-table}
+use Rattle.node.proofs.Laws.{past-table}
+use Rattle.branch.specs.Block.{blockOf}
+use Rattle.branch.specs.declared.Block.{Block}
 use Rattle.layout.specs.Layout.{behind, ChildBlocks, not-behind, not-to-end, too-early}
 use Rattle.util.proofs.Before.{Before, none-yet, one-more}
 
@@ -69,20 +71,24 @@ module _ (t : List ℕ) where
             placed = one-more (Placed t) 0 k (inv .placed) (record { starts = λ u. clash u (sym e ∙ q); after = λ u. clash u (sym e ∙ q) }) i h;
           }
 
-      module _ (q : r ≡ true) (f : ℕ) (p : f ≡ firstChild (getD t k 0)) where
-        pub blocks-apart′ : (f ≡ a → ⊥) → Decides (ChildBlocks t) true
-        blocks-apart′ n = holds (not-behind k (sym e ∙ q) (λ h. n (p ∙ h ∙ sym (inv .place))))
+      module _ (q : r ≡ true) (x : Block) (p : x ≡ blockOf (getD t k 0)) where
+        starts : x .from ≡ first t k
+        unfolding blockOf
+        starts = rw p
 
-        pub blocks-early′ : f ≤ k → Decides (ChildBlocks t) true
-        blocks-early′ h = holds (too-early k (sym e ∙ q) (rw p at h))
+        pub blocks-apart′ : (x .from ≡ a → ⊥) → Decides (ChildBlocks t) true
+        blocks-apart′ n = holds (not-behind k (sym e ∙ q) (λ h. n (starts ∙ h ∙ sym (inv .place))))
 
-        pub blocks-more′ : f ≡ a → k < f → (c : ℕ) → c ≡ childCount (getD t k 0) → (i : ℕ) → i ≡ k + 1 → (n : ℕ) → n ≡ f + c → Follows t i n
-        unfolding behind
-        blocks-more′ same low c s i h n g =
+        pub blocks-early′ : x .from ≤ k → Decides (ChildBlocks t) true
+        blocks-early′ h = holds (too-early k (sym e ∙ q) (rw starts at h))
+
+        pub blocks-more′ : x .from ≡ a → k < x .from → (i : ℕ) → i ≡ k + 1 → (n : ℕ) → n ≡ x .to → Follows t i n
+        unfolding behind blockOf
+        blocks-more′ same low i h n g =
             record {
               within = omega arith;
-              place = rw (h, add-one, ← e, q, g, ← s, same) (rw (inv .place));
-              placed = one-more (Placed t) 0 k (inv .placed) (record { starts = λ u. sym p ∙ same ∙ inv .place; after = λ u. rw (← p) low }) i h;
+              place = rw (h, add-one, ← e, q, g, p, ← inv .place, ← same, starts);
+              placed = one-more (Placed t) 0 k (inv .placed) (record { starts = λ u. sym starts ∙ same ∙ inv .place; after = λ u. rw starts at low }) i h;
             }
 
-pub ruleset blocks-laws = (needs, block-fits′, blocks-begins′, blocks-end′, blocks-leaf′, blocks-apart′, blocks-early′, blocks-more′)
+pub ruleset blocks-laws = (needs, blocks-begins′, blocks-end′, blocks-leaf′, blocks-apart′, blocks-early′, blocks-more′)

@@ -12,20 +12,20 @@ use Rattle.kind.proofs.Tests.{and-left, and-right, clash}
 use Rattle.util.specs.Decides.{Decides, holds, fails}
 use Rattle.util.proofs.Decided.{by-both}
 use Rattle.node.specs.Word.{isBranch, isDefault, nameLength, nameStart, childCount, spareBits}
-use Rattle.layout.specs.Layout.{NodeCount, no-node, too-many, NodeFields, spare-bits, root-no-branch, root-default, root-name-length, root-name-start, leaf-children}
-use Rattle.layout.specs.Parts.{isRoot, hasFields}
+use Rattle.layout.specs.Layout.{mostNodes, NodeCount, no-node, too-many, NodeFields, spare-bits, root-no-branch, root-default, root-name-length, root-name-start, leaf-children}
+use Rattle.layout.specs.Internal.{isRoot, hasFields}
 use Rattle.util.proofs.Before.{Before, none-yet, one-more}
 
 module _ (t : List ℕ) where
   pub count-none′ : length t ≡ 0 → Decides (NodeCount t) true
   count-none′ h = holds (no-node h)
 
-  pub count-many′ : (length t ≡ 0 → ⊥) → Decides (NodeCount t) (ltb 4096 (length t))
-  count-many′ some = by-both (ltb 4096 (length t)) (λ e. too-many (ltb-true 4096 (length t) e)) into
+  pub count-many′ : (length t ≡ 0 → ⊥) → Decides (NodeCount t) (ltb mostNodes (length t))
+  count-many′ some = by-both (ltb mostNodes (length t)) (λ e. too-many (ltb-true mostNodes (length t) e)) into
     where
-      into : NodeCount t → ltb 4096 (length t) ≡ true
+      into : NodeCount t → ltb mostNodes (length t) ≡ true
       into (no-node h) = absurd (some h)
-      into (too-many h) = lt-ltb 4096 (length t) h
+      into (too-many h) = lt-ltb mostNodes (length t) h
 
 pub ruleset count-laws = (needs, count-none′, count-many′)
 

@@ -4,39 +4,20 @@ use mathlib.Core.Path.{_≡_, refl, sym, _∙_}
 use mathlib.Core.List.{List}
 use mathlib.Core.Bool.{Bool, true, false, not}
 use native.Mathlib.Omega.{arith}
-use lib.Dec.{ltb}
 use lib.ListN.{length, getD}
 use borrow.Author.Needs.{needs}
-use borrow.Author.Tests.{not-true, not-false, ltb-true, lt-ltb}
+use borrow.Author.Tests.{not-true, not-false}
 use Rattle.kind.proofs.Tests.{clash}
 use Rattle.util.specs.Decides.{Decides, holds, fails}
 use Rattle.util.specs.Run.{standsAt}
 use Rattle.util.proofs.Decided.{by-both, it-holds, it-fails}
 use Rattle.mnemonic.specs.Spelling.{Name}
 use Rattle.name.proofs.Names.{surely}
-use Rattle.node.specs.Word.{isBranch, isDefault, nameLength, nameStart, firstChild, childCount, nameIn}
+use Rattle.node.specs.Word.{isBranch, isDefault, nameLength, nameStart, nameIn}
 use Rattle.node.specs.Tree.{nameOf, Child}
-use Rattle.node.proofs.Laws.{end-fits′, block-fits′}
-use Rattle.layout.specs.Layout.{BadName, outside, no-byte, too-long, no-name, star-branch, star-default, star-below, NodeName}
+use Rattle.node.proofs.Laws.{end-fits′}
+use Rattle.layout.specs.Layout.{longestName, BadName, outside, no-byte, too-long, no-name, star-branch, star-default, star-below, NodeName}
 use Rattle.util.proofs.Before.{Before, none-yet, one-more}
-
--- under the root
-
-module _ (t : List ℕ) (k : ℕ) (r : Bool) (e : r ≡ isBranch (getD t 0 0)) where
-  pub under-leaf′ : not r ≡ true → Decides (Child t 0 k) false
-  under-leaf′ q = fails (λ c. clash (c .holder) (sym e ∙ not-true r q))
-
-  module _ (q : not r ≡ false) (f : ℕ) (p : f ≡ firstChild (getD t 0 0)) where
-    pub under-before′ : k < f → Decides (Child t 0 k) false
-    under-before′ h = fails (λ c. omega (arith, c .from))
-
-    pub under-block′ : f ≤ k → (n : ℕ) → n ≡ childCount (getD t 0 0) → Decides (Child t 0 k) (ltb k (f + n))
-    under-block′ h n s =
-        by-both (ltb k (f + n))
-        (λ g. record { holder = sym e ∙ not-false r q; from = omega arith; below = rw (← p, ← s) (ltb-true k (f + n) g) })
-        (λ c. lt-ltb k (f + n) (rw (← p, ← s) at (c .below)))
-
-pub ruleset under-laws = (needs, block-fits′, under-leaf′, under-before′, under-block′)
 
 -- the name of a node
 
@@ -44,7 +25,7 @@ module _ (t names : List ℕ) (k n : ℕ) (e : n ≡ nameLength (getD t k 0)) wh
   pub name-none′ : n ≡ 0 → Decides (BadName t names k) true
   name-none′ h = holds (no-byte (sym e ∙ h))
 
-  pub name-long′ : 12 < n → Decides (BadName t names k) true
+  pub name-long′ : longestName < n → Decides (BadName t names k) true
   name-long′ h = holds (too-long (rw e at h))
 
   module _ (s : ℕ) (f : s ≡ nameStart (getD t k 0)) where
@@ -59,7 +40,7 @@ module _ (t names : List ℕ) (k n : ℕ) (e : n ≡ nameLength (getD t k 0)) wh
         stands : not st ≡ false → standsAt 42 (nameIn names (getD t k 0)) 0 ≡ true
         stands q = rw (← g) (sym i ∙ not-false st q)
 
-        module _ (some : n ≡ 0 → ⊥) (short : n ≤ 12) (inside : s + n ≤ length names) (q : not r ≡ false) where
+        module _ (some : n ≡ 0 → ⊥) (short : n ≤ longestName) (inside : s + n ≤ length names) (q : not r ≡ false) where
           pub name-plain′ : not st ≡ true → Decides (BadName t names k) false
           name-plain′ u = fails none
             where

@@ -10,10 +10,14 @@ use Rattle.mnemonic.specs.Spelling.{Name}
 use Rattle.node.specs.Word.{nameLength, nameStart, spareBits}
 use Rattle.node.specs.Tree.{branch, default, first, count, nameOf, Child}
 
+-- the most nodes that a table may have
+abbrev pub mostNodes : ℕ
+mostNodes = 4096
+
 -- 1: no node, or more than 4,096
 pub data NodeCount (t : List ℕ) : Type 0 where
   no-node : length t ≡ 0 → NodeCount t
-  too-many : 4096 < length t → NodeCount t
+  too-many : mostNodes < length t → NodeCount t
 
 -- 2: spare bits that are set, a root that is no branch, default or with a name, or a leaf with children
 pub data NodeFields (t : List ℕ) : Type 0 where
@@ -36,12 +40,16 @@ pub data ChildBlocks (t : List ℕ) : Type 0 where
   not-to-end : (behind t (length t) ≡ length t → ⊥) → ChildBlocks t
   too-early : (b : ℕ) → branch t b ≡ true → first t b ≤ b → ChildBlocks t
 
+-- the most bytes that a name may have
+abbrev pub longestName : ℕ
+longestName = 12
+
 -- A name outside the text, not of 1 to 12 bytes, or not of the form of a name. A star is only for a leaf that is a child of the root
 -- and not default.
 pub data BadName (t names : List ℕ) (k : ℕ) : Type 0 where
   outside : length names < nameStart (getD t k 0) + nameLength (getD t k 0) → BadName t names k
   no-byte : nameLength (getD t k 0) ≡ 0 → BadName t names k
-  too-long : 12 < nameLength (getD t k 0) → BadName t names k
+  too-long : longestName < nameLength (getD t k 0) → BadName t names k
   no-name : (Name (nameOf t names k) → ⊥) → BadName t names k
   star-branch : standsAt (code "*") (nameOf t names k) 0 ≡ true → branch t k ≡ true → BadName t names k
   star-default : standsAt (code "*") (nameOf t names k) 0 ≡ true → default t k ≡ true → BadName t names k

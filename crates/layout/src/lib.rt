@@ -3,9 +3,14 @@ ghost use Prim.Native.Nat.{_<_};
 ghost use mathlib.Core.Path.{_≡_};
 ghost use lib.ListN.{length};
 ghost use Rattle.util.specs.Decides.{Decides};
-ghost use Rattle.node.specs.Tree.{Child};
 ghost use Rattle.layout.specs.Layout.{NodeCount, NodeFields, ChildBlocks, BadName, NodeName};
-ghost use Rattle.layout.specs.Parts.{isRoot, hasFields};
+ghost use Rattle.layout.specs.Internal.{isRoot, hasFields};
+
+// The most nodes that a table may have.
+const MOST_NODES: usize = 4096;
+
+// The most bytes that a name may have.
+const LONGEST_NAME: usize = 12;
 
 // Fault 1: no node, or more than 4,096.
 pub fn has_wrong_count(nodes: &[u64]) -> bool
@@ -14,7 +19,7 @@ pub fn has_wrong_count(nodes: &[u64]) -> bool
     if nodes.len() == 0 {
         return true;
     }
-    4096 < nodes.len()
+    MOST_NODES < nodes.len()
 }
 
 // Fault 2: fields that a root or a node may not have.
@@ -75,14 +80,14 @@ pub fn has_wrong_blocks(nodes: &[u64]) -> bool
     while k < nodes.len() {
         let word = nodes[k];
         if node::is_branch(word) {
-            let first = node::first_child(word);
-            if first != behind {
+            let block = branch::block_of(word);
+            if block.from != behind {
                 return true;
             }
-            if first <= k {
+            if block.from <= k {
                 return true;
             }
-            behind = first + node::child_count(word);
+            behind = block.to;
             k += 1;
         } else {
             k += 1;
@@ -115,7 +120,7 @@ fn has_bad_name(nodes: &[u64], names: &[u8], k: usize) -> bool
     if length == 0 {
         return true;
     }
-    if 12 < length {
+    if LONGEST_NAME < length {
         return true;
     }
     if names.len() < node::name_start(word) + length {
@@ -134,21 +139,5 @@ fn has_bad_name(nodes: &[u64], names: &[u8], k: usize) -> bool
     if node::is_default(word) {
         return true;
     }
-    !is_under_root(nodes, k)
-}
-
-// Whether a node is a child of the root.
-fn is_under_root(nodes: &[u64], k: usize) -> bool
-    requires { ⌜ k < length (now nodes) ⌝ }
-    ensures { λ r. ⌜ Decides (Child (now (nodes .entry)) 0 k) r ⌝ }
-{
-    let root = nodes[0];
-    if !node::is_branch(root) {
-        return false;
-    }
-    let first = node::first_child(root);
-    if k < first {
-        return false;
-    }
-    k < first + node::child_count(root)
+    !branch::is_child(nodes, 0, k)
 }

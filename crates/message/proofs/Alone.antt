@@ -8,10 +8,8 @@ use Rattle.error.specs.declared.ErrorCode.{ErrorCode}
 use Rattle.error.specs.declared.ErrorCode.the-variants as refusal
 use Rattle.node.specs.Tree.{branch}
 use Rattle.record.specs.declared.Record.{Record}
-use Rattle.tokenizer.specs.Step.{step, ofMessage}
-use Rattle.tokenizer.specs.declared.Answer.the-variants.{End}
-use Rattle.tokenizer.specs.declared.State.{State}
-use Rattle.ahead.specs.Seen.{aheadOf, seenAt}
+use Rattle.tokenizer.specs.Step.{stateOf, ofMessage}
+use Rattle.ahead.specs.Seen.{seenAt}
 use Rattle.header.specs.Header.{Begins}
 use Rattle.ahead.specs.declared.Stop.the-variants as stop
 use Rattle.header.specs.declared.Header.{Header}
@@ -23,12 +21,8 @@ use Rattle.tree.specs.declared.Resolved.{Resolved}
 use Rattle.tree.specs.declared.Resolved.the-variants as resolved
 use Rattle.unit.specs.Unit.{at-end, recordOf, no-command, whole}
 use Rattle.message.specs.Message as message
-use Rattle.message.specs.Message.{isEnd, complete, refused, none, stopped, next, Message, text}
-use Rattle.message.proofs.Fronts.{begun}
-
-at-end-still : (s : List ℕ) (st : State) → (step s st) .answer ≡ End → isEnd ((seenAt s st) .ahead) ≡ true
-unfolding seenAt
-at-end-still s st e = ap (λ a. isEnd (aheadOf a)) e
+use Rattle.message.specs.Message.{complete, refused, none, stopped, next, Message, text}
+use Rattle.message.proofs.Fronts.{begun, past-text}
 
 abbrev isCommand : Resolved → Bool
 isCommand (resolved.Command c query kept) = true
@@ -54,11 +48,11 @@ module _ {t names : List ℕ} {b : ℕ} {s : List ℕ} where
     where
       go : (h : Header) → Begins t names s b (seenAt s ofMessage) h → closing h ≡ resolved.Command c query kept → Message t names b s (recordOf c query kept 0 ∷ []) complete
       go (header.Refused e) y o = no-command-here o
-      go (header.Found c′ query′ kept′ stop.Separator st) y o = no-command-here o
-      go (header.Found c′ query′ kept′ stop.Unit st) y o = no-command-here o
-      go (header.Found c′ query′ kept′ stop.Text st) y o =
+      go (header.Found c′ query′ kept′ stop.Separator p) y o = no-command-here o
+      go (header.Found c′ query′ kept′ stop.Unit p) y o = no-command-here o
+      go (header.Found c′ query′ kept′ stop.Text p) y o =
           subst (λ (u : Record). Message t names b s (u ∷ []) complete) (ap recordOfAnswer o)
-          (text m l (next (begun y tt) (whole y at-end) (none (at-end-still s st (headers.claims .over _ _ _ _ _ _ _ _ _ y)))))
+          (text m l (next (begun y tt) (whole y at-end) (none (past-text s (stateOf p true false) (headers.claims .over _ _ _ _ _ _ _ _ _ y)))))
 
   pub refused-alike : {e : ErrorCode} → (e ≡ refusal.SyntaxError → ⊥) → (r : Resolved) → Resolves t names b s r → r ≡ resolved.Refused e → Message t names b s [] (refused e)
   refused-alike {e} other r x q = go x q
@@ -70,9 +64,9 @@ module _ {t names : List ℕ} {b : ℕ} {s : List ℕ} where
       by-header : branch t b ≡ true → length s ≤ 65535 → (h : Header) → Begins t names s b (seenAt s ofMessage) h → closing h ≡ resolved.Refused e
           → Message t names b s [] (refused e)
       by-header m l (header.Refused c) y o = as-told o (text m l (stopped (begun y (m, λ p. other (sym (ap codeIn o) ∙ p))) (no-command y)))
-      by-header m l (header.Found c query kept stop.Separator st) y o = absurd (other (sym (ap codeIn o)))
-      by-header m l (header.Found c query kept stop.Unit st) y o = absurd (other (sym (ap codeIn o)))
-      by-header m l (header.Found c query kept stop.Text st) y o = absurd (false≢true (ap isCommand (sym o)))
+      by-header m l (header.Found c query kept stop.Separator p) y o = absurd (other (sym (ap codeIn o)))
+      by-header m l (header.Found c query kept stop.Unit p) y o = absurd (other (sym (ap codeIn o)))
+      by-header m l (header.Found c query kept stop.Text p) y o = absurd (false≢true (ap isCommand (sym o)))
 
       go : {r : Resolved} → Resolves t names b s r → r ≡ resolved.Refused e → Message t names b s [] (refused e)
       go (alone.no-branch l) o = as-told o (message.no-branch l)

@@ -14,7 +14,6 @@ use Rattle.table.specs.Fault.{Verdict}
 use Rattle.table.specs.declared.Checked.{Checked}
 use Rattle.table.specs.declared.Checked.the-variants as checked
 use Rattle.table.proofs.Told.{faultless}
-use Rattle.tokenizer.specs.Step.{ofMessage}
 use Rattle.record.specs.declared.Record.{Record}
 use Rattle.message.specs.Message.{Ending, refused, Units, Message, no-branch, too-long, text, CheckedMessage, fault, sound, written, recorded, Walks}
 use Rattle.message.specs.declared.Walked.{Walked}
@@ -40,7 +39,7 @@ module _ (t names : List ℕ) (b : ℕ) (s slots : List ℕ) (r : Bool) (e : r �
     pub too-long′ : 65535 < length s → Walks (Message t names b s) slots (walked.Refused 0 refusal.MessageTooLong) slots
     too-long′ h = at-once slots (too-long (sym e ∙ not-false r q) h)
 
-    pub text′ : length s ≤ 65535 → (w : Walked) (after : List ℕ) → Walks (Units t names s b ofMessage) slots w after → Walks (Message t names b s) slots w after
+    pub text′ : length s ≤ 65535 → (w : Walked) (after : List ℕ) → Walks (Units t names s b 0) slots w after → Walks (Message t names b s) slots w after
     text′ h w after x = as-well (λ us f. text (sym e ∙ not-false r q) h) x
 
 pub ruleset accepted-laws = (needs, no-start′, too-long′, text′)

@@ -29,7 +29,7 @@ past-text s st h = ap (λ (x : Step). isEnd (aheadOf (x .answer))) (tokens.claim
 
 -- a header from the branch b that is not refused as one that is missing
 abbrev Present : List ℕ → ℕ → Header → Type 0
-Present t b (header.Found c query kept x st) = Unit {0}
+Present t b (header.Found c query kept x p) = Unit {0}
 Present t b (header.Refused e) = (branch t b ≡ true) × (e ≡ refusal.SyntaxError → ⊥)
 
 -- such a header does not begin at the end of the text
@@ -43,7 +43,7 @@ begun (begins.common _ e f r) p = ap isEnd e
 begun (begins.from-branch _ e f r) p = ap isEnd e
 
 -- nor does a unit that is read
-pub unit-begun : {t names s : List ℕ} {b : ℕ} {seen : Seen} {u : Record} {st : State} → Reads t names s b seen (unit.Read u st) → isEnd (seen .ahead) ≡ false
+pub unit-begun : {t names s : List ℕ} {b : ℕ} {seen : Seen} {u : Record} {p : ℕ} → Reads t names s b seen (unit.Read u p) → isEnd (seen .ahead) ≡ false
 unit-begun (whole y x) = begun y tt
 
 -- what is seen is seen again, as the code meets it

@@ -12,7 +12,6 @@ use Rattle.table.specs.declared.Checked.{Checked}
 use Rattle.table.specs.declared.Checked.the-variants as checked
 use Rattle.table.proofs.Told.{no-fault}
 use Rattle.table.proofs.Claims as tables
-use Rattle.tokenizer.specs.declared.State.{State}
 use Rattle.unit.specs.declared.Unit.{Unit}
 use Rattle.unit.specs.declared.Unit.the-variants as unit
 use Rattle.unit.proofs.Claims as units
@@ -36,24 +35,24 @@ faultIn (checked.Fault e) = e
 
 abbrev errorIn : Unit → ErrorCode
 errorIn (unit.Refused e) = e
-errorIn (unit.Read u st) = refusal.SyntaxError
+errorIn (unit.Read u p) = refusal.SyntaxError
 
 abbrev isRead : Unit → Bool
 isRead (unit.Refused e) = false
-isRead (unit.Read u st) = true
+isRead (unit.Read u p) = true
 
 abbrev recordIn : Record → Unit → Record
 recordIn other (unit.Refused e) = other
-recordIn other (unit.Read u st) = u
+recordIn other (unit.Read u p) = u
 
-abbrev stateIn : State → Unit → State
-stateIn other (unit.Refused e) = other
-stateIn other (unit.Read u st) = st
+abbrev placeIn : ℕ → Unit → ℕ
+placeIn other (unit.Refused e) = other
+placeIn other (unit.Read u p) = p
 
-no-read : {A : Type 0} {e : ErrorCode} {u : Record} {st : State} → unit.Refused e ≡ unit.Read u st → A
+no-read : {A : Type 0} {e : ErrorCode} {u : Record} {p : ℕ} → unit.Refused e ≡ unit.Read u p → A
 no-read q = absurd (false≢true (ap isRead q))
 
-pub one-units : {t names s : List ℕ} {b : ℕ} {st : State} {us vs : List Record} {e f : Ending} → Units t names s b st us e → Units t names s b st vs f
+pub one-units : {t names s : List ℕ} {b p : ℕ} {us vs : List Record} {e f : Ending} → Units t names s b p us e → Units t names s b p vs f
     → parts us e ≡ parts vs f
 one-units (none x) (none y) = refl
 one-units (none x) (stopped y q) = clash x y
@@ -63,9 +62,9 @@ one-units (stopped x p) (stopped y q) = ap (λ (r : Unit). parts [] (refused (er
 one-units (stopped x p) (next y q k) = no-read (units.claims .one-answer _ _ _ _ _ _ _ p q)
 one-units (next x p h) (none y) = clash y x
 one-units (next x p h) (stopped y q) = no-read (units.claims .one-answer _ _ _ _ _ _ _ q p)
-one-units {t} {names} {s} {b} {st} {us} {vs} {e} {f} (next {u = u} x p h) (next {us = ws} y q k) =
-    let same = units.claims .one-answer _ _ _ _ _ _ _ p q in
-    let rest = subst (λ (r : Unit). Units t names s ((recordIn u r) .branch) (stateIn st r) ws f) (sym same) k in
+one-units {t} {names} {s} {b} {p} {us} {vs} {e} {f} (next {u = u} x o h) (next {us = ws} y q k) =
+    let same = units.claims .one-answer _ _ _ _ _ _ _ o q in
+    let rest = subst (λ (r : Unit). Units t names s ((recordIn u r) .branch) (placeIn p r) ws f) (sym same) k in
     ap (λ (z : Parts). parts (u ∷ z .units) (z .ending)) (one-units h rest) ∙ ap (λ (r : Unit). parts (recordIn u r ∷ ws) f) same
 
 -- one message, and so one outcome

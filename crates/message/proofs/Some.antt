@@ -8,7 +8,7 @@ use native.Mathlib.Omega.{arith}
 use lib.ListN.{length}
 use Rattle.kind.proofs.Tests.{clash, less-or-not}
 use Rattle.node.specs.Tree.{branch}
-use Rattle.tokenizer.specs.Step.{ofMessage}
+use Rattle.tokenizer.specs.Step.{stateOf}
 use Rattle.tokenizer.specs.declared.State.{State}
 use Rattle.tokenizer.proofs.Claims as tokens
 use Rattle.ahead.specs.Seen.{seenAt}
@@ -17,7 +17,7 @@ use Rattle.unit.specs.declared.Unit.{Unit}
 use Rattle.unit.specs.declared.Unit.the-variants as unit
 use Rattle.unit.proofs.Claims as units
 use Rattle.record.specs.declared.Record.{Record}
-use Rattle.message.specs.Message.{isEnd, Ending, Units, none, stopped, next, Message, no-branch, too-long, text}
+use Rattle.message.specs.Message.{beginningAt, isEnd, Ending, Units, none, stopped, next, Message, no-branch, too-long, text}
 use Rattle.message.proofs.Fronts.{past-text}
 
 -- a token that does not end the message moves the place
@@ -30,26 +30,25 @@ inside s st f = go (less-or-not (st .place) (length s))
     go (inr l) = clash (past-text s st l) f
 
 module _ (t names s : List ℕ) where
-  within : (f b : ℕ) (st : State) → length s - st .place < f → (us : List Record) × (e : Ending) × Units t names s b st us e
-  within zero b st l = absurd (omega arith)
-  within (suc f) b st l = go (isEnd ((seenAt s st) .ahead)) refl (within f)
+  within : (f b p : ℕ) → length s - p < f → (us : List Record) × (e : Ending) × Units t names s b p us e
+  within zero b p l = absurd (omega arith)
+  within (suc f) b p l = go (isEnd (beginningAt s p .ahead)) refl (within f)
     where
-      go : (x : Bool) → isEnd ((seenAt s st) .ahead) ≡ x
-          → ((b : ℕ) (st : State) → length s - st .place < f → (us : List Record) × (e : Ending) × Units t names s b st us e)
-          → (us : List Record) × (e : Ending) × Units t names s b st us e
+      go : (x : Bool) → isEnd (beginningAt s p .ahead) ≡ x → ((b p : ℕ) → length s - p < f → (us : List Record) × (e : Ending) × Units t names s b p us e)
+          → (us : List Record) × (e : Ending) × Units t names s b p us e
       go true x rest = (_, _, none x)
-      go false x rest = let z = units.claims .some-answer t names s b (seenAt s st) in by-unit (z .0) (z .1)
+      go false x rest = let z = units.claims .some-answer t names s b (beginningAt s p) in by-unit (z .0) (z .1)
         where
-          by-unit : (r : Unit) → Reads t names s b (seenAt s st) r → (us : List Record) × (e : Ending) × Units t names s b st us e
+          by-unit : (r : Unit) → Reads t names s b (beginningAt s p) r → (us : List Record) × (e : Ending) × Units t names s b p us e
           by-unit (unit.Refused c) y = (_, _, stopped x y)
-          by-unit (unit.Read u behind) y =
-              let p = inside s st x in
+          by-unit (unit.Read u after) y =
+              let i = inside s (stateOf p true false) x in
               let q = units.claims .onward _ _ _ _ _ _ _ y in
-              let z = rest (u .branch) behind (omega (arith, l, p, q)) in
+              let z = rest (u .branch) after (omega (arith, l, i, q)) in
               (_, z .1, next x y (z .2))
 
-  pub some-units : (b : ℕ) (st : State) → (us : List Record) × (e : Ending) × Units t names s b st us e
-  some-units b st = within (suc (length s - st .place)) b st (omega arith)
+  pub some-units : (b p : ℕ) → (us : List Record) × (e : Ending) × Units t names s b p us e
+  some-units b p = within (suc (length s - p)) b p (omega arith)
 
 pub some-message : (t names : List ℕ) (b : ℕ) (s : List ℕ) → (us : List Record) × (e : Ending) × Message t names b s us e
 some-message t names b s = go (branch t b) refl (less-or-not 65535 (length s))
@@ -57,4 +56,4 @@ some-message t names b s = go (branch t b) refl (less-or-not 65535 (length s))
     go : (x : Bool) → branch t b ≡ x → (65535 < length s) ⊎ (length s ≤ 65535) → (us : List Record) × (e : Ending) × Message t names b s us e
     go false m l = (_, _, no-branch m)
     go true m (inl l) = (_, _, too-long m l)
-    go true m (inr l) = let z = some-units t names s b ofMessage in (_, _, text m l (z .2))
+    go true m (inr l) = let z = some-units t names s b 0 in (_, _, text m l (z .2))

@@ -10,15 +10,13 @@ use borrow.Author.Tests.{le-leb, lt-leb}
 use Rattle.error.specs.declared.ErrorCode.{ErrorCode}
 use Rattle.error.specs.declared.ErrorCode.the-variants as refusal
 use Rattle.node.specs.Tree.{branch}
-use Rattle.tokenizer.specs.Step.{ofMessage}
-use Rattle.tokenizer.specs.declared.State.{State}
-use Rattle.ahead.specs.Seen.{seenAt}
+use Rattle.tokenizer.specs.Step.{stateOf}
 use Rattle.unit.specs.Unit.{Reads}
 use Rattle.unit.specs.declared.Unit.{Unit}
 use Rattle.unit.specs.declared.Unit.the-variants as unit
 use Rattle.record.specs.Word.{wordOf}
 use Rattle.record.specs.declared.Record.{Record}
-use Rattle.message.specs.Message.{isEnd, Ending, complete, refused, Units, none, stopped, next, written, told, recorded, Walks}
+use Rattle.message.specs.Message.{beginningAt, isEnd, Ending, complete, refused, Units, none, stopped, next, written, told, recorded, Walks}
 use Rattle.message.specs.declared.Walked.the-variants as walked
 use Rattle.message.proofs.Fronts.{past-text, unit-begun}
 use Rattle.message.proofs.Some.{some-units}
@@ -62,24 +60,23 @@ unfolding recorded
 fitting slots us e h = rw (le-leb _ _ h)
 
 -- So far: the units that are read and written, and that what follows them is the rest of the message.
-pub record SoFar (t names s : List ℕ) (start : ℕ) (before : List ℕ) (count kept : ℕ) (st : State) (slots : List ℕ) : Type 0 where
+pub record SoFar (t names s : List ℕ) (start : ℕ) (before : List ℕ) (count kept p : ℕ) (slots : List ℕ) : Type 0 where
   pub units : List Record
   pub number : length units ≡ count
   pub room : count ≤ length before
   pub words : slots ≡ written (map wordOf units) before
-  pub back : (us : List Record) (e : Ending) → Units t names s kept st us e → Units t names s start ofMessage (units ++ us) e
+  pub back : (us : List Record) (e : Ending) → Units t names s kept p us e → Units t names s start 0 (units ++ us) e
 
-pub at-front′ : (t names s : List ℕ) (start : ℕ) (before : List ℕ) (st : State) → st ≡ ofMessage → SoFar t names s start before 0 start st before
+pub at-front′ : (t names s : List ℕ) (start : ℕ) (before : List ℕ) → SoFar t names s start before 0 start 0 before
 unfolding written
-at-front′ t names s start before st e =
-    record { units = []; number = refl; room = omega arith; words = refl; back = λ us f h. subst (λ (x : State). Units t names s start x us f) e h }
+at-front′ t names s start before = record { units = []; number = refl; room = omega arith; words = refl; back = λ us f h. h }
 
-module _ (t names s : List ℕ) (start : ℕ) (before : List ℕ) (count kept : ℕ) (st : State) (slots : List ℕ) (so : SoFar t names s start before count kept st slots) where
+module _ (t names s : List ℕ) (start : ℕ) (before : List ℕ) (count kept p : ℕ) (slots : List ℕ) (so : SoFar t names s start before count kept p slots) where
   abbrev M : List Record → Ending → Type 0
-  M = Units t names s start ofMessage
+  M = Units t names s start 0
 
   -- the walk ends here, with all units written
-  ends : (e : Ending) → Units t names s kept st [] e → Walks M before (told count e) slots
+  ends : (e : Ending) → Units t names s kept p [] e → Walks M before (told count e) slots
   ends e h =
       record {
         units = so .units;
@@ -89,27 +86,27 @@ module _ (t names s : List ℕ) (start : ℕ) (before : List ℕ) (count kept : 
             rw (so .words, ← so .number) (sym (fitting before (so .units) e (rw (← so .number) at (so .room))));
       }
 
-  pub past′ : length s ≤ st .place → Walks M before (walked.Units count) slots
-  past′ l = ends complete (none (past-text s st l))
+  pub past′ : length s ≤ p → Walks M before (walked.Units count) slots
+  past′ l = ends complete (none (past-text s (stateOf p true false) l))
 
-  pub done′ : (q : Bool) → q ≡ isEnd ((seenAt s st) .ahead) → q ≡ true → Walks M before (walked.Units count) slots
+  pub done′ : (q : Bool) → q ≡ isEnd (beginningAt s p .ahead) → q ≡ true → Walks M before (walked.Units count) slots
   done′ q o h = ends complete (none (sym o ∙ h))
 
-  module _ (r : Unit) (y : Reads t names s kept (seenAt s st) r) where
-    read : (x : Unit) → r ≡ x → Reads t names s kept (seenAt s st) x
-    read x f = subst (λ (z : Unit). Reads t names s kept (seenAt s st) z) f y
+  module _ (r : Unit) (y : Reads t names s kept (beginningAt s p) r) where
+    read : (x : Unit) → r ≡ x → Reads t names s kept (beginningAt s p) x
+    read x f = subst (λ (z : Unit). Reads t names s kept (beginningAt s p) z) f y
 
-    pub refused′ : (q : Bool) → q ≡ isEnd ((seenAt s st) .ahead) → q ≡ false → (e : ErrorCode) → r ≡ unit.Refused e → Walks M before (walked.Refused count e) slots
+    pub refused′ : (q : Bool) → q ≡ isEnd (beginningAt s p .ahead) → q ≡ false → (e : ErrorCode) → r ≡ unit.Refused e → Walks M before (walked.Refused count e) slots
     refused′ q o h e f = ends (refused e) (stopped (sym o ∙ h) (read _ f))
 
-    module _ (u : Record) (behind : State) (f : r ≡ unit.Read u behind) where
-      whole : (us : List Record) (e : Ending) → Units t names s (u .branch) behind us e → M (so .units ++ (u ∷ us)) e
+    module _ (u : Record) (after : ℕ) (f : r ≡ unit.Read u after) where
+      whole : (us : List Record) (e : Ending) → Units t names s (u .branch) after us e → M (so .units ++ (u ∷ us)) e
       whole us e x = so .back _ e (next (unit-begun (read _ f)) (read _ f) x)
 
       pub full′ : length slots ≤ count → Walks M before (walked.Refused count refusal.NoSlotLeft) slots
       unfolding recorded
       full′ l =
-          let rest = some-units t names s (u .branch) behind in
+          let rest = some-units t names s (u .branch) after in
           let us = so .units in
           let k : length before ≡ count = omega (arith, l, so .room, written-length (map wordOf us) before, ap length (so .words)) in
           let many : length before < length (us ++ (u ∷ rest .0)) = omega (arith, k, so .number, length-append us (u ∷ rest .0)) in
@@ -122,7 +119,7 @@ module _ (t names s : List ℕ) (start : ℕ) (before : List ℕ) (count kept : 
           }
 
       pub goes-on′ : count < length slots → (w : ℕ) → w ≡ wordOf u → (j : ℕ) → j ≡ count + 1 → (later : List ℕ) → later ≡ set slots count w
-          → SoFar t names s start before j (u .branch) behind later
+          → SoFar t names s start before j (u .branch) after later
       goes-on′ l w e j g later o =
           let us = so .units in
           let inside : count < length before = omega (arith, l, written-length (map wordOf us) before, ap length (so .words)) in

@@ -11,13 +11,14 @@ use Rattle.error.specs.declared.ErrorCode.the-variants as refusal
 use Rattle.node.specs.Tree.{branch}
 use Rattle.table.specs.Fault.{Accepted, Verdict}
 use Rattle.table.specs.declared.Checked.the-variants as checked
-use Rattle.tokenizer.specs.Step.{ofMessage}
-use Rattle.tokenizer.specs.declared.State.{State}
+use Rattle.tokenizer.specs.Step.{stateOf}
 use Rattle.ahead.specs.Seen.{seenAt}
 use Rattle.ahead.specs.declared.Stop.{Stop}
 use Rattle.ahead.specs.declared.Stop.the-variants as stop
 use Rattle.ahead.specs.declared.Ahead.{Ahead}
 use Rattle.ahead.specs.declared.Ahead.the-variants as ahead
+use Rattle.ahead.specs.declared.Seen.{Seen}
+use Rattle.tree.specs.Alone.{longestMessage}
 use Rattle.unit.specs.Unit.{Reads}
 use Rattle.unit.specs.declared.Unit.the-variants as unit
 use Rattle.record.specs.Word.{wordOf}
@@ -25,7 +26,11 @@ use Rattle.record.specs.declared.Record.{Record}
 use Rattle.message.specs.declared.Walked.{Walked}
 use Rattle.message.specs.declared.Walked.the-variants as walked
 
--- where a unit would begin stands the end of the text
+-- what is ahead at a place where a unit would begin: at the front of a message, or after a `;`
+abbrev pub beginningAt : List ℕ → ℕ → Seen
+beginningAt s p = seenAt s (stateOf p true false)
+
+-- the end of the text is where a unit would begin
 abbrev pub isText : Stop → Bool
 isText stop.Text = true
 isText stop.Unit = false
@@ -43,25 +48,25 @@ pub data Ending : Type 0 where
   complete : Ending
   refused : ErrorCode → Ending
 
--- Units t names s b st us e: from the state st on, and from the branch b, the units us are read well, one behind the other, and then comes
+-- Units t names s b p us e: from the place p on, and from the branch b, the units us are read well, one after the other, and then comes
 -- e. The branch that a unit keeps is the start of the next (IEEE 488.2 appendix A.1, SCPI-99 6.2.4).
-pub data Units (t names s : List ℕ) : ℕ → State → List Record → Ending → Type 0 where
-  -- the text ends: at once, behind a unit, or behind one `;`, which the standard has only between units
-  none : {b : ℕ} {st : State} → isEnd ((seenAt s st) .ahead) ≡ true → Units t names s b st [] complete
-  stopped : {b : ℕ} {st : State} {e : ErrorCode} → isEnd ((seenAt s st) .ahead) ≡ false → Reads t names s b (seenAt s st) (unit.Refused e)
-      → Units t names s b st [] (refused e)
-  next : {b : ℕ} {st : State} {u : Record} {behind : State} {us : List Record} {e : Ending} → isEnd ((seenAt s st) .ahead) ≡ false
-      → Reads t names s b (seenAt s st) (unit.Read u behind) → Units t names s (u .branch) behind us e
-      → Units t names s b st (u ∷ us) e
+pub data Units (t names s : List ℕ) : ℕ → ℕ → List Record → Ending → Type 0 where
+  -- the text ends: at once, after a unit, or after one `;`, which the standard has only between units
+  none : {b p : ℕ} → isEnd (beginningAt s p .ahead) ≡ true → Units t names s b p [] complete
+  stopped : {b p : ℕ} {e : ErrorCode} → isEnd (beginningAt s p .ahead) ≡ false → Reads t names s b (beginningAt s p) (unit.Refused e)
+      → Units t names s b p [] (refused e)
+  next : {b p : ℕ} {u : Record} {after : ℕ} {us : List Record} {e : Ending} → isEnd (beginningAt s p .ahead) ≡ false
+      → Reads t names s b (beginningAt s p) (unit.Read u after) → Units t names s (u .branch) after us e
+      → Units t names s b p (u ∷ us) e
 
 -- Message t names b s us e: the message s, from the branch b of a table that is not checked, has the units us and then e.
 pub data Message (t names : List ℕ) (b : ℕ) (s : List ℕ) : List Record → Ending → Type 0 where
   -- 7: the start is no branch
   no-branch : branch t b ≡ false → Message t names b s [] (refused refusal.StartIsNoBranch)
-  -- 9: the message has more than 65,535 bytes
-  too-long : branch t b ≡ true → 65535 < length s → Message t names b s [] (refused refusal.MessageTooLong)
+  -- 9: the message is longer than a message may be
+  too-long : branch t b ≡ true → longestMessage < length s → Message t names b s [] (refused refusal.MessageTooLong)
   -- then the text itself
-  text : {us : List Record} {e : Ending} → branch t b ≡ true → length s ≤ 65535 → Units t names s b ofMessage us e → Message t names b s us e
+  text : {us : List Record} {e : Ending} → branch t b ≡ true → length s ≤ longestMessage → Units t names s b 0 us e → Message t names b s us e
 
 -- The message where the table is checked first: its smallest fault, 1 to 6, before all else.
 pub data CheckedMessage (t names : List ℕ) (b : ℕ) (s : List ℕ) : List Record → Ending → Type 0 where

@@ -3,7 +3,8 @@ ghost use Prim.Native.Nat.{_+_, _<_};
 ghost use mathlib.Core.Path.{_≡_};
 ghost use lib.ListN.{length, set};
 ghost use Rattle.message.specs.Message.{isText, isEnd, Units, Message, CheckedMessage, Walks};
-ghost use Rattle.tokenizer.specs.Step.{ofMessage};
+ghost use mathlib.Core.Bool.{true, false};
+ghost use Rattle.tokenizer.specs.Step.{stateOf};
 ghost use Rattle.ahead.specs.Seen.{seenAt};
 use ahead::Ahead;
 use ahead::Stop;
@@ -45,7 +46,7 @@ pub fn walk_accepted(
             error: ErrorCode::StartIsNoBranch,
         };
     }
-    if 65535 < s.len() {
+    if tree::LONGEST_MESSAGE < s.len() {
         return Walked::Refused {
             units: 0,
             error: ErrorCode::MessageTooLong,
@@ -57,25 +58,25 @@ pub fn walk_accepted(
 // The units from the front of the text on. No unit is read where the message ends, so past the text, and where a unit is refused, it is
 // asked whether it ends there.
 fn walk_units(nodes: &[u64], names: &[u8], start: usize, s: &[u8], slots: &mut [u64]) -> Walked
-    ensures { λ r. ⌜ Walks (Units (now (nodes .entry)) (now (names .entry)) (now (s .entry)) start ofMessage) (now (slots .entry)) r (now (slots .exit)) ⌝ }
+    ensures { λ r. ⌜ Walks (Units (now (nodes .entry)) (now (names .entry)) (now (s .entry)) start 0) (now (slots .entry)) r (now (slots .exit)) ⌝ }
 {
     let mut units = 0;
     let mut kept = start;
-    let mut state = tokenizer::new();
+    let mut place = 0;
     loop {
-        if s.len() <= state.place {
+        if s.len() <= place {
             return Walked::Units(units);
         }
-        match unit::read(nodes, names, s, kept, state) {
+        match unit::read(nodes, names, s, kept, place) {
             Unit::Refused(e) => {
-                if sees_end(s, state) {
+                if sees_end(s, place) {
                     return Walked::Units(units);
                 }
                 return Walked::Refused { units, error: e };
             }
             Unit::Read {
                 record,
-                state: behind,
+                place: next,
             } => {
                 if slots.len() <= units {
                     return Walked::Refused {
@@ -85,12 +86,7 @@ fn walk_units(nodes: &[u64], names: &[u8], start: usize, s: &[u8], slots: &mut [
                 }
                 units = put(slots, units, record::pack(record));
                 kept = record.branch;
-                // field by field, as a copy of the whole moves the bytes between the fields too
-                state = State {
-                    place: behind.place,
-                    in_header: behind.in_header,
-                    in_common: behind.in_common,
-                };
+                place = next;
             }
         }
     }
@@ -105,10 +101,15 @@ fn put(slots: &mut [u64], at: usize, word: u64) -> usize
     at + 1
 }
 
-// Whether the message ends at a state, told by the token that stands there.
-fn sees_end(s: &[u8], state: State) -> bool
-    ensures { λ r. ⌜ r ≡ isEnd ((seenAt (now (s .entry)) state) .ahead) ⌝ }
+// Whether the message ends at a place where a unit would begin, by the token there.
+fn sees_end(s: &[u8], place: usize) -> bool
+    ensures { λ r. ⌜ r ≡ isEnd ((seenAt (now (s .entry)) (stateOf place true false)) .ahead) ⌝ }
 {
+    let state = State {
+        place,
+        in_header: true,
+        in_common: false,
+    };
     let seen = ahead::look(s, state);
     let ahead = seen.ahead;
     is_end(ahead)

@@ -1,15 +1,15 @@
 -- Laws of the fields of a node, as the code meets them.
 use Prim.Native.Nat.{ℕ, _+_, _-_, _≤_, _<_}
-use mathlib.Core.Path.{_≡_}
+use mathlib.Core.Path.{_≡_, sym}
 use mathlib.Core.List.{List}
 use mathlib.Core.Bool.{false}
 use native.Mathlib.Omega.{arith}
-use lib.ListN.{length, take, drop, List·getD-eq-default}
+use lib.ListN.{length, take, drop, getD, List·getD-eq-default}
 use mir.Syntax.{w64}
 use mir.Val.{Fits}
 use borrow.Author.Needs.{needs}
 use borrow.Author.Tests.{le-leb, lt-leb}
-use Rattle.node.specs.Word.{isBranch, nameLength, nameStart, firstChild, childCount, nameIn}
+use Rattle.node.specs.Word.{isBranch, nameLength, nameStart, firstChild, childCount, nameIn, initialIn}
 use Rattle.node.specs.Tree.{branch}
 
 -- fields are small
@@ -44,4 +44,15 @@ module _ (w a b : ℕ) (e : a ≡ nameStart w) (f : b ≡ nameLength w) where
       let k : a + b - a ≡ b = omega arith in
       rw (← e, ← f, le-leb (a + b) (length names) h, k)
 
-pub ruleset laws = (needs, end-fits′, outside′, inside′)
+-- the first byte of a name
+
+module _ (names : List ℕ) (w a : ℕ) (e : a ≡ nameStart w) where
+  pub initial-in′ : getD names a 0 ≡ initialIn names w
+  unfolding initialIn
+  initial-in′ = rw (← e)
+
+  pub initial-out′ : length names ≤ a → 0 ≡ initialIn names w
+  unfolding initialIn
+  initial-out′ h = rw (← e) (sym (List·getD-eq-default names 0 h))
+
+pub ruleset laws = (needs, end-fits′, outside′, inside′, initial-in′, initial-out′)

@@ -4,7 +4,7 @@ use Prim.Native.Nat.{ℕ, _+_, _/_, _%_, _^_}
 use mathlib.Core.List.{List, []}
 use mathlib.Core.Bool.{Bool, cond}
 use lib.Dec.{eqb, leb}
-use lib.ListN.{length, take, drop}
+use lib.ListN.{length, take, drop, getD}
 
 -- so many bits of a word, with so many below them
 abbrev pub field : ℕ → ℕ → ℕ → ℕ
@@ -42,3 +42,7 @@ spareBits = field 10 0
 unfoldable pub nameIn : List ℕ → ℕ → List ℕ
 nameIn names w =
     cond (leb (nameStart w + nameLength w) (length names)) (take (nameLength w) (drop (nameStart w) names)) []
+
+-- The byte at which the name of a node begins, 0 where that is outside the text. It is the first byte of the name, where the node has one.
+unfoldable pub initialIn : List ℕ → ℕ → ℕ
+initialIn names w = getD names (nameStart w) 0

@@ -1,6 +1,6 @@
 // The nodes of a command tree, each a word of 64 bits. `Node` of tree/mod.rs of the original.
 ghost use mathlib.Core.Path.{_≡_};
-ghost use Rattle.node.specs.Word.{isBranch, isDefault, nameLength, nameStart, firstChild, commandNumber, childCount, spareBits, nameIn};
+ghost use Rattle.node.specs.Word.{isBranch, isDefault, nameLength, nameStart, firstChild, commandNumber, childCount, spareBits, nameIn, initialIn};
 
 // Whether a node has children; a leaf has a command.
 pub fn is_branch(word: u64) -> bool
@@ -68,4 +68,15 @@ pub fn name(names: &[u8], word: u64) -> &[u8]
         return &names[..0];
     }
     &names[start..end]
+}
+
+// The first byte of a node's name, or 0 where the name begins outside the text of names.
+pub fn initial(names: &[u8], word: u64) -> u8
+    ensures { λ r. ⌜ r ≡ initialIn (now (names .entry)) word ⌝ }
+{
+    let start = name_start(word);
+    if start < names.len() {
+        return names[start];
+    }
+    0
 }

@@ -17,14 +17,15 @@ use Rattle.node.specs.Word.{isBranch, isDefault, nameLength, nameStart, firstCh
 use Rattle.node.specs.Tree.{branch, nameOf, Near}
 use Rattle.layout.specs.Layout.{NodeCount, no-node, too-many, NodeFields, spare-bits, root-no-branch, root-default, root-name-length, root-name-start, leaf-children, behind, ChildBlocks, not-behind, not-to-end, too-early}
 use Rattle.table.specs.Fault.{Fault, node-count, node-fields, child-blocks, node-name, two-defaults, shared-spelling, Accepted, Verdict, accepts, refuses}
-use Rattle.table.specs.Parts.{Ready}
+use Rattle.table.specs.Internal.{Ready}
 use Rattle.table.specs.Claims.{Tree, rootAlone, Claims}
 use Rattle.table.specs.declared.Checked.{Checked}
 use Rattle.table.specs.declared.Checked.the-variants as checked
 use Rattle.layout.proofs.Blocks.{in-table}
 use Rattle.layout.proofs.NodeNames.{name-of}
 use Rattle.table.proofs.Shape.{holder-of, one-holder, child-after, child-in, near-in}
-use Rattle.table.proofs.Theorem.{one-default, enough}
+use Rattle.table.proofs.Shared.{one-default}
+use Rattle.table.proofs.Theorem.{enough}
 
 module _ (t names : List ℕ) (ok : Accepted t names) where
   ready : Ready t names

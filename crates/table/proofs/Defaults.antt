@@ -6,80 +6,89 @@ use mathlib.Core.List.{List}
 use mathlib.Core.Bool.{Bool, true, false, not}
 use native.Mathlib.Decide.{ℕ-discrete}
 use native.Mathlib.Omega.{arith}
-use lib.Dec.{ltb}
 use lib.ListN.{length, getD}
 use borrow.Author.Needs.{needs}
-use borrow.Author.Tests.{not-true, not-false, ltb-true, lt-ltb}
+use borrow.Author.Tests.{not-true, not-false}
 use Rattle.kind.proofs.Tests.{clash, less-or-not}
 use Rattle.util.specs.Decides.{Decides, holds, fails}
-use Rattle.util.proofs.Decided.{by-both, it-holds, it-fails}
-use Rattle.node.specs.Word.{isBranch, isDefault, firstChild, childCount}
-use Rattle.node.specs.Tree.{branch, default, first, count}
-use Rattle.node.proofs.Laws.{block-fits′}
-use Rattle.table.specs.Fault.{TwoDefaults}
-use Rattle.table.specs.Parts.{TwoDefaultsIn, NextDefault, OneDefault, DefaultBranch, Blocks}
 use Rattle.util.proofs.Before.{Before, none-yet, one-more}
+use Rattle.util.proofs.Decided.{it-holds, it-fails}
+use Rattle.node.specs.Word.{isBranch}
+use Rattle.node.specs.Tree.{branch, default, first, count}
+use Rattle.branch.specs.Children.{unsaidIn, PicksIn, first-in, none-in}
+use Rattle.branch.specs.Block.{blockOf, childrenOf, nextChild}
+use Rattle.branch.specs.declared.Block.{Block}
+use Rattle.branch.specs.declared.Pick.{Pick}
+use Rattle.branch.specs.declared.Pick.the-variants as pick
+use Rattle.branch.proofs.Blocks.{next-in′}
+use Rattle.branch.proofs.Picks.{covers, not-past}
 use Rattle.layout.proofs.Blocks.{in-table}
-use Rattle.table.proofs.Shape.{block-in}
+use Rattle.table.specs.Fault.{TwoDefaults}
+use Rattle.table.specs.Internal.{TwoDefaultsIn, OneDefault, DefaultBranch, inner, no-inner, Blocks}
+use Rattle.table.proofs.Shape.{its-children}
 
--- the next default node
+-- the first default node of a block: it is in the table, and no default node is before it
+record First (t : List ℕ) (from to d : ℕ) : Type 0 where
+  pub low : from ≤ d
+  pub high : d < to
+  pub is : default t d ≡ true
+  pub inside : d < length t
+  pub before : (k : ℕ) → from ≤ k → default t k ≡ true → d ≤ k
 
--- what the loop keeps: there is none before d
-abbrev pub Passed : List ℕ → ℕ → ℕ → Type 0
-Passed t at d = Before (λ j. default t j ≡ false) at d
-
-module _ (t : List ℕ) (at to : ℕ) where
-  pub next-begins′ : Passed t at at
-  next-begins′ = none-yet (λ j. default t j ≡ false) at
-
-  module _ (d : ℕ) (inv : Passed t at d) where
-    pub next-end′ : to ≤ d → NextDefault t at to d
-    next-end′ h = record { from = inv .low; passed = inv .all; found = λ l. absurd (omega arith) }
-
-    module _ (r : Bool) (e : r ≡ isDefault (getD t d 0)) where
-      pub next-found′ : r ≡ true → NextDefault t at to d
-      next-found′ q = record { from = inv .low; passed = inv .all; found = λ l. sym e ∙ q }
-
-      pub next-more′ : r ≡ false → (i : ℕ) → i ≡ d + 1 → Passed t at i
-      next-more′ q i h = one-more (λ j. default t j ≡ false) at d inv (sym e ∙ q) i h
-
-pub ruleset next-laws = (needs, next-begins′, next-end′, next-found′, next-more′)
-
--- a default node is not before the next one
-pub not-before : (t : List ℕ) (at to d : ℕ) → NextDefault t at to d → (k : ℕ) → at ≤ k → default t k ≡ true → d ≤ k
-not-before t at to d n k h e = go (less-or-not k d)
+first-at : {t : List ℕ} {from to d : ℕ} → PicksIn (unsaidIn t) from to (pick.Child d) → First t from to d
+unfolding unsaidIn
+first-at {t} {from} {d = d} (first-in l u e f) = record { low = l; high = u; is = e; inside = go (less-or-not d (length t)); before = λ k h g. back k (less-or-not k d) h g }
   where
-    go : (k < d) ⊎ (d ≤ k) → d ≤ k
-    go (inl l) = clash e (n .passed k h l)
-    go (inr l) = l
+    go : (d < length t) ⊎ (length t ≤ d) → d < length t
+    go (inl h) = h
+    go (inr h) = clash e (not-past t d h)
+
+    back : (k : ℕ) → (k < d) ⊎ (d ≤ k) → from ≤ k → default t k ≡ true → d ≤ k
+    back k (inl h) g i = clash i (f k g h)
+    back k (inr h) g i = h
+
+none-at : (t : List ℕ) {from to : ℕ} → PicksIn (unsaidIn t) from to pick.None → (k : ℕ) → from ≤ k → k < to → default t k ≡ true → ⊥
+unfolding unsaidIn
+none-at t (none-in f) k l u e = clash e (f k l u)
 
 -- two in a block
 
-module _ (t : List ℕ) (from to d : ℕ) (n : NextDefault t from to d) where
-  pub two-none′ : to ≤ d → Decides (TwoDefaultsIn t from to) false
-  two-none′ h = fails (λ x. omega (arith, not-before t from to d n (x .one) (x .low) (x .default-one), x .order, x .high))
+module _ (t : List ℕ) (from to : ℕ) (p : Pick) (x : PicksIn (unsaidIn t) from to p) where
+  pub two-none′ : p ≡ pick.None → Decides (TwoDefaultsIn t from to) false
+  two-none′ e = fails (λ z. none-at t (rw e at x) (z .one) (z .low) (omega (arith, z .order, z .high)) (z .default-one))
 
-  pub two-next′ : d < to → (e : ℕ) → NextDefault t (d + 1) to e → Decides (TwoDefaultsIn t from to) (ltb e to)
-  two-next′ h e m =
-      by-both (ltb e to)
-      (λ q. record {
-        one = d;
-        other = e;
-        low = n .from;
-        order = omega (arith, m .from);
-        high = ltb-true e to q;
-        default-one = n .found h;
-        default-other = m .found (ltb-true e to q);
-      })
-      (λ x. lt-ltb e to (omega (arith, not-before t (d + 1) to e m (x .other) (omega (arith, not-before t from to d n (x .one) (x .low) (x .default-one), x .order)) (x .default-other), x .high)))
+  module _ (d : ℕ) (e : p ≡ pick.Child d) (i : ℕ) (n : i ≡ nextChild t d) (q : Pick) (y : PicksIn (unsaidIn t) i to q) where
+    one : First t from to d
+    one = first-at (rw e at x)
 
-pub ruleset two-laws = (needs, two-none′, two-next′)
+    next : i ≡ d + 1
+    next = n ∙ sym (next-in′ t d (one .inside))
+
+    pub two-one′ : q ≡ pick.None → Decides (TwoDefaultsIn t from to) false
+    two-one′ f =
+        fails (λ z. none-at t (rw f at y) (z .other) (omega (arith, next, one .before (z .one) (z .low) (z .default-one), z .order)) (z .high) (z .default-other))
+
+    pub two-two′ : (k : ℕ) → q ≡ pick.Child k → Decides (TwoDefaultsIn t from to) true
+    two-two′ k f =
+        let other = first-at (rw f at y) in
+        holds
+        (record {
+          one = d;
+          other = k;
+          low = one .low;
+          order = omega (arith, next, other .low);
+          high = other .high;
+          default-one = one .is;
+          default-other = other .is;
+        })
+
+pub ruleset two-laws = (needs, two-none′, two-one′, two-two′)
 
 -- in all blocks
 
 -- a branch has at most one default child
 abbrev pub One : List ℕ → ℕ → Type 0
-One t b = branch t b ≡ true → TwoDefaultsIn t (first t b) (first t b + count t b) → ⊥
+One t b = TwoDefaultsIn t (childrenOf t b .from) (childrenOf t b .to) → ⊥
 
 -- what the loop keeps: so it is with the branches before b
 abbrev pub Single : List ℕ → ℕ → Type 0
@@ -115,73 +124,61 @@ module _ (t : List ℕ) where
           strict (yes e) = absurd (x .two e)
           strict (no e) = omega arith
 
-  pub block-inside′ : (ok : Blocks t) (b : ℕ) (r : Bool) → r ≡ isBranch (getD t b 0) → r ≡ true
-      → (f c : ℕ) → f ≡ firstChild (getD t b 0) → c ≡ childCount (getD t b 0) → f + c ≤ length t
-  block-inside′ ok b r e q f c p s = rw (p, s) (block-in t (ok .no-child-blocks) b (sym e ∙ q))
-
   pub single-begins′ : Single t 0
   single-begins′ = none-yet (One t) 0
 
   module _ (b : ℕ) (inv : Single t b) where
-    pub single-end′ : length t ≤ b → Decides (TwoDefaults t) false
-    single-end′ h = fails (λ x. let z = two-in x in inv .all (z .0) (omega arith) (omega (arith, in-table t (z .0) (z .1))) (z .1) (z .2))
+    pub single-end′ : Blocks t → length t ≤ b → Decides (TwoDefaults t) false
+    unfolding blockOf
+    single-end′ ok h =
+        fails (λ x. let z = two-in x in inv .all (z .0) (omega arith) (omega (arith, in-table t (z .0) (z .1))) (rw (its-children t (ok .no-child-blocks) (z .0) (z .1)) (z .2)))
 
-    module _ (r : Bool) (e : r ≡ isBranch (getD t b 0)) where
-      pub single-leaf′ : r ≡ false → (i : ℕ) → i ≡ b + 1 → Single t i
-      single-leaf′ q i h = one-more (One t) 0 b inv (λ u. clash u (sym e ∙ q)) i h
+    module _ (x : Block) (p : x ≡ childrenOf t b) (o : Bool) (d : Decides (TwoDefaultsIn t (x .from) (x .to)) o) where
+      met : Decides (TwoDefaultsIn t (childrenOf t b .from) (childrenOf t b .to)) o
+      met = rw (← p) d
 
-      module _ (q : r ≡ true) (f c : ℕ) (p : f ≡ firstChild (getD t b 0)) (s : c ≡ childCount (getD t b 0))
-          (n : ℕ) (v : n ≡ f + c) (o : Bool) (d : Decides (TwoDefaultsIn t f n) o) where
-        pub two-found′ : o ≡ true → Decides (TwoDefaults t) true
-        two-found′ w =
-            let x = it-holds d w in
-            holds
-            (record {
-              holder = b;
-              one = x .one;
-              other = x .other;
-              child-one = record { holder = sym e ∙ q; from = omega (arith, x .low, p); below = omega (arith, x .order, x .high, v, p, s) };
-              child-other = record { holder = sym e ∙ q; from = omega (arith, x .low, x .order, p); below = omega (arith, x .high, v, p, s) };
-              two = λ k. omega (arith, x .order);
-              default-one = x .default-one;
-              default-other = x .default-other;
-            })
+      pub two-found′ : o ≡ true → Decides (TwoDefaults t) true
+      two-found′ w =
+          let y = it-holds met w in
+          holds
+          (record {
+            holder = b;
+            one = y .one;
+            other = y .other;
+            child-one = covers t b .only (y .one) (y .low) (omega (arith, y .order, y .high)) .child;
+            child-other = covers t b .only (y .other) (omega (arith, y .low, y .order)) (y .high) .child;
+            two = λ k. omega (arith, y .order);
+            default-one = y .default-one;
+            default-other = y .default-other;
+          })
 
-        pub single-more′ : o ≡ false → (i : ℕ) → i ≡ b + 1 → Single t i
-        single-more′ w i h = one-more (One t) 0 b inv (λ u. rw (← p, ← s, ← v) (it-fails d w)) i h
+      pub single-more′ : o ≡ false → (i : ℕ) → i ≡ b + 1 → Single t i
+      single-more′ w i h = one-more (One t) 0 b inv (it-fails met w) i h
 
-pub ruleset single-laws = (needs, block-fits′, block-inside′, single-begins′, single-end′, single-leaf′, two-found′, single-more′)
+pub ruleset single-laws = (needs, single-begins′, single-end′, two-found′, single-more′)
 
 -- the default branch of a block that has one default node at most
 
-module _ (t : List ℕ) (from to d : ℕ) (n : NextDefault t from to d) where
-  pub inner-none′ : to ≤ d → DefaultBranch t from to to
-  inner-none′ h =
-      record { found = λ l. absurd (omega arith); only = λ k l u b e. absurd (omega (arith, not-before t from to d n k l e)) }
+module _ (t : List ℕ) (from to : ℕ) (p : Pick) (x : PicksIn (unsaidIn t) from to p) where
+  pub inner-none′ : p ≡ pick.None → DefaultBranch t from to pick.None
+  inner-none′ e = no-inner (λ k l u b f. none-at t (rw e at x) k l u f)
 
-  module _ (ok : OneDefault t from to) (l : d < to) where
-    -- another default node would be a second one
-    same : (k : ℕ) → from ≤ k → k < to → default t k ≡ true → d ≡ k
-    same k h u e = go (less-or-not d k)
-      where
-        go : (d < k) ⊎ (k ≤ d) → d ≡ k
-        go (inl m) =
-            absurd
-            (ok .one (record { one = d; other = k; low = n .from; order = m; high = u; default-one = n .found l; default-other = e }))
-        go (inr m) = omega (arith, not-before t from to d n k h e)
+  module _ (d : ℕ) (e : p ≡ pick.Child d) where
+    pub inner-inside′ : d < length t
+    inner-inside′ = first-at (rw e at x) .inside
 
-    module _ (g : Bool) (e : g ≡ isBranch (getD t d 0)) where
-      pub inner-leaf′ : not g ≡ true → DefaultBranch t from to to
-      inner-leaf′ w =
-          record {
-            found = λ h. absurd (omega arith);
-            only = λ k h u b f. clash b (rw (same k h u f) at (sym e ∙ not-true g w));
-          }
+    module _ (g : Bool) (f : g ≡ isBranch (getD t d 0)) where
+      -- a default branch would be a second default node
+      pub inner-leaf′ : not g ≡ true → OneDefault t from to → DefaultBranch t from to pick.None
+      inner-leaf′ w ok = no-inner (λ k l u b i. go k (less-or-not d k) u b i (first-at (rw e at x) .before k l i))
+        where
+          go : (k : ℕ) → (d < k) ⊎ (k ≤ d) → k < to → branch t k ≡ true → default t k ≡ true → d ≤ k → ⊥
+          go k (inl m) u b i h =
+              let y = first-at (rw e at x) in
+              ok .one (record { one = d; other = k; low = y .low; order = m; high = u; default-one = y .is; default-other = i })
+          go k (inr m) u b i h = let z : k ≡ d = omega arith in clash (rw z at b) (sym f ∙ not-true g w)
 
-      pub inner-found′ : not g ≡ false → DefaultBranch t from to d
-      inner-found′ w = record { found = λ h. (n .from, sym e ∙ not-false g w, n .found h); only = λ k h u b f. same k h u f }
-
-pub inner-inside′ : (t : List ℕ) (to d : ℕ) → d < to → to ≤ length t → d < length t
-inner-inside′ t to d h k = omega arith
+      pub inner-found′ : not g ≡ false → DefaultBranch t from to (pick.Child d)
+      inner-found′ w = let y = first-at (rw e at x) in inner (y .low) (y .high) (sym f ∙ not-false g w) (y .is)
 
 pub ruleset inner-laws = (needs, inner-inside′, inner-none′, inner-leaf′, inner-found′)

@@ -7,9 +7,11 @@ use mathlib.Core.Bool.{Bool, true, false, cond}
 use native.Mathlib.Decide.{ℕ-discrete}
 use native.Mathlib.Nat.{le-refl}
 use native.Mathlib.Omega.{arith}
-use lib.ListN.{length}
+use lib.ListN.{length, getD}
+use borrow.Author.Tests.{lt-ltb, le-leb}
 use Rattle.kind.proofs.Tests.{less-or-not}
 use Rattle.node.specs.Tree.{branch, first, count, Child, Near, child, under}
+use Rattle.branch.specs.Block.{blockOf, childrenOf}
 use Rattle.layout.specs.Layout.{behind, ChildBlocks, not-behind, not-to-end, too-early}
 use Rattle.layout.proofs.Blocks.{in-table}
 
@@ -62,6 +64,11 @@ module _ (t : List ℕ) where
 
     pub block-in : (b : ℕ) → branch t b ≡ true → first t b + count t b ≤ length t
     block-in b m = omega (arith, stops b m, behind-order (suc b) (length t) (in-table t b m), ends)
+
+    -- the children that are gone through are the block of the branch
+    pub its-children : (b : ℕ) → branch t b ≡ true → childrenOf t b ≡ blockOf (getD t b 0)
+    unfolding childrenOf
+    its-children b m = rw (m, lt-ltb b (first t b) (after b m), le-leb (first t b + count t b) (length t) (block-in b m))
 
     pub child-in : {b k : ℕ} → Child t b k → k < length t
     child-in {b} c = omega (arith, c .below, block-in b (c .holder))

@@ -17,11 +17,12 @@ use Rattle.node.specs.Word.{isBranch}
 use Rattle.node.specs.Tree.{branch, default, nameOf, Child, Near, child, under}
 use Rattle.layout.specs.Layout.{ChildBlocks}
 use Rattle.table.specs.Fault.{SharedSpelling}
-use Rattle.table.specs.Parts.{SharesAt, children, below, Ready}
+use Rattle.table.specs.Internal.{SharesAt, children, below, Ready}
 use Rattle.util.proofs.Before.{Before, none-yet, one-more}
 use Rattle.layout.proofs.Blocks.{in-table}
 use Rattle.layout.proofs.NodeNames.{name-of}
 use Rattle.table.proofs.Shape.{child-in, elsewhere, near-in}
+use Rattle.table.proofs.Shared.{one-default}
 
 flip : {a b : List ℕ} → Share a b → Share b a
 flip s = record { word = s .word; one = s .other; other = s .one }
@@ -70,16 +71,6 @@ module _ (t names : List ℕ) (ok : Ready t names) where
             };
       })
 
-  pub one-default : {b d e : ℕ} → Child t b d → Child t b e → default t d ≡ true → default t e ≡ true → d ≡ e
-  one-default {b} {d} {e} c c′ m m′ = go (ℕ-discrete d e)
-    where
-      go : Dec (d ≡ e) → d ≡ e
-      go (yes q) = q
-      go (no q) =
-          absurd
-          (ok .no-two-defaults
-          (record { holder = b; one = d; other = e; child-one = c; child-other = c′; two = q; default-one = m; default-other = m′ }))
-
   found : {b k j : ℕ} → Near t b k → Near t b j → (k ≡ j → ⊥) → Share (nameOf t names k) (nameOf t names j) → (a : ℕ) × (branch t a ≡ true) × SharesAt t names a
   found {b} {k} {j} (child c) (child d) two s = (b, c .holder, go (less-or-not k j))
     where
@@ -93,7 +84,7 @@ module _ (t names : List ℕ) (ok : Ready t names) where
   found {b} (child c) (under d m x) two s = (b, c .holder, aunt c d m x (flip s))
   found {b} (under c m x) (child d) two s = (b, d .holder, aunt d c m x s)
   found {j = j} (under {d = d} c m x) (under {d = e} c′ m′ y) two s =
-      let q : e ≡ d = one-default c′ c m′ m in
+      let q : e ≡ d = one-default t names ok c′ c m′ m in
       found x (subst (λ (n : ℕ). Near t n j) q y) two s
 
   -- sound: what is found at a branch are two near nodes of it

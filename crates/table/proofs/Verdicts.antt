@@ -11,7 +11,7 @@ use Rattle.util.specs.Decides.{Decides}
 use Rattle.util.proofs.Decided.{it-holds, it-fails}
 use Rattle.layout.specs.Layout.{NodeCount, NodeFields, ChildBlocks, NodeName}
 use Rattle.table.specs.Fault.{TwoDefaults, SharedSpelling, Fault, node-count, node-fields, child-blocks, node-name, two-defaults, shared-spelling, Verdict, accepts, refuses}
-use Rattle.table.specs.Parts.{Blocks, Ready}
+use Rattle.table.specs.Internal.{Blocks, Ready}
 use Rattle.table.specs.declared.Checked.the-variants as checked
 
 -- there are six faults

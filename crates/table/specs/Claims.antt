@@ -11,7 +11,7 @@ use Rattle.error.specs.declared.ErrorCode.{ErrorCode}
 use Rattle.mnemonic.specs.Spelling.{Name, spells}
 use Rattle.node.specs.Tree.{branch, default, nameOf, Child, Near}
 use Rattle.table.specs.Fault.{SharedSpelling, Fault, Accepted, Verdict}
-use Rattle.table.specs.Parts.{Ready, SharesAt}
+use Rattle.table.specs.Internal.{Ready, SharesAt}
 use Rattle.table.specs.declared.Checked.{Checked}
 
 -- An accepted table is a tree of named nodes, in which a word has one meaning at most at each branch.

@@ -1,13 +1,12 @@
 // The check of a node table: its nodes, a lent slice of words, and the lent text of their names.
-ghost use Prim.Native.Nat.{_≤_};
 ghost use mathlib.Core.Path.{_≡_};
 ghost use mathlib.Core.Bool.{true};
-ghost use lib.ListN.{length};
 ghost use Rattle.util.specs.Decides.{Decides};
 ghost use Rattle.mnemonic.specs.Spelling.{Name};
 ghost use Rattle.node.specs.Tree.{branch};
 ghost use Rattle.table.specs.Fault.{TwoDefaults, SharedSpelling, Verdict};
-ghost use Rattle.table.specs.Parts.{TwoDefaultsIn, NextDefault, OneDefault, DefaultBranch, Blocks, Ready, Block, SharesIn, ChildrenShare, BlocksShare, NearShares, SharesAt};
+ghost use Rattle.table.specs.Internal.{TwoDefaultsIn, OneDefault, DefaultBranch, Blocks, Ready, NamedBlock, SharesIn, ChildrenShare, BlocksShare, NearShares, SharesAt};
+use branch::Pick;
 use error::ErrorCode;
 
 // What the check says of a table: that it is accepted, or its smallest fault.
@@ -48,46 +47,26 @@ fn has_two_defaults(nodes: &[u64]) -> bool
 {
     let mut b = 0;
     while b < nodes.len() {
-        let word = nodes[b];
-        if node::is_branch(word) {
-            let first = node::first_child(word);
-            let end = first + node::child_count(word);
-            if has_two_defaults_in(nodes, first, end) {
-                return true;
-            }
-            b += 1;
-        } else {
-            b += 1;
+        let block = branch::children(nodes, b);
+        if has_two_defaults_in(nodes, block.from, block.to) {
+            return true;
         }
+        b += 1;
     }
     false
 }
 
 // Whether two nodes of a block are default.
 fn has_two_defaults_in(nodes: &[u64], first: usize, end: usize) -> bool
-    requires { ⌜ end ≤ length (now nodes) ⌝ }
     ensures { λ r. ⌜ Decides (TwoDefaultsIn (now (nodes .entry)) first end) r ⌝ }
 {
-    let d = next_default(nodes, first, end);
-    if end <= d {
-        return false;
+    match branch::default_in(nodes, first, end) {
+        Pick::None => false,
+        Pick::Child(d) => match branch::default_in(nodes, branch::next_child(nodes, d), end) {
+            Pick::None => false,
+            Pick::Child(_) => true,
+        },
     }
-    next_default(nodes, d + 1, end) < end
-}
-
-// The next default node from a place on, or the end where there is none.
-fn next_default(nodes: &[u64], at: usize, end: usize) -> usize
-    requires { ⌜ end ≤ length (now nodes) ⌝ }
-    ensures { λ r. ⌜ NextDefault (now (nodes .entry)) at end r ⌝ }
-{
-    let mut d = at;
-    while d < end {
-        if node::is_default(nodes[d]) {
-            return d;
-        }
-        d += 1;
-    }
-    d
 }
 
 // Fault 6: two near nodes of a branch that share a spelling.
@@ -114,63 +93,63 @@ fn shares_at(nodes: &[u64], names: &[u8], b: usize) -> bool
     requires { ⌜ Ready (now nodes) (now names) × (branch (now nodes) b ≡ true) ⌝ }
     ensures { λ r. ⌜ Decides (SharesAt (now (nodes .entry)) (now (names .entry)) b) r ⌝ }
 {
-    let word = nodes[b];
-    let first = node::first_child(word);
-    let end = first + node::child_count(word);
+    let block = branch::children(nodes, b);
+    let first = block.from;
+    let end = block.to;
     if children_share(nodes, names, first, end) {
         return true;
     }
-    let inner = default_branch(nodes, first, end);
-    if end <= inner {
-        return false;
+    match default_branch(nodes, first, end) {
+        Pick::None => false,
+        Pick::Child(inner) => near_shares(nodes, names, first, end, inner),
     }
-    near_shares(nodes, names, first, end, inner)
 }
 
 // Whether a near node of a branch shares a spelling with a node of a block.
 fn near_shares(nodes: &[u64], names: &[u8], first: usize, end: usize, b: usize) -> bool
-    requires { ⌜ Block (now nodes) (now names) first end × (branch (now nodes) b ≡ true) ⌝ }
+    requires { ⌜ NamedBlock (now nodes) (now names) first end × (branch (now nodes) b ≡ true) ⌝ }
     ensures { λ r. ⌜ Decides (NearShares (now (nodes .entry)) (now (names .entry)) first end b) r ⌝ }
 {
-    let word = nodes[b];
-    let from = node::first_child(word);
-    let to = from + node::child_count(word);
+    let block = branch::children(nodes, b);
+    let from = block.from;
+    let to = block.to;
     if blocks_share(nodes, names, first, end, from, to) {
         return true;
     }
-    let inner = default_branch(nodes, from, to);
-    if to <= inner {
-        return false;
+    match default_branch(nodes, from, to) {
+        Pick::None => false,
+        Pick::Child(inner) => near_shares(nodes, names, first, end, inner),
     }
-    near_shares(nodes, names, first, end, inner)
 }
 
-// The default branch in a block, or the end of the block where there is none.
-fn default_branch(nodes: &[u64], first: usize, end: usize) -> usize
-    requires { ⌜ (end ≤ length (now nodes)) × OneDefault (now nodes) first end ⌝ }
+// The default branch in a block.
+fn default_branch(nodes: &[u64], first: usize, end: usize) -> Pick
+    requires { ⌜ OneDefault (now nodes) first end ⌝ }
     ensures { λ r. ⌜ DefaultBranch (now (nodes .entry)) first end r ⌝ }
 {
-    let d = next_default(nodes, first, end);
-    if end <= d {
-        return end;
+    match branch::default_in(nodes, first, end) {
+        Pick::None => Pick::None,
+        Pick::Child(d) => {
+            if !node::is_branch(nodes[d]) {
+                return Pick::None;
+            }
+            Pick::Child(d)
+        }
     }
-    if !node::is_branch(nodes[d]) {
-        return end;
-    }
-    d
 }
 
 // Whether two nodes of a block share a spelling.
 fn children_share(nodes: &[u64], names: &[u8], first: usize, end: usize) -> bool
-    requires { ⌜ Block (now nodes) (now names) first end ⌝ }
+    requires { ⌜ NamedBlock (now nodes) (now names) first end ⌝ }
     ensures { λ r. ⌜ Decides (ChildrenShare (now (nodes .entry)) (now (names .entry)) first end) r ⌝ }
 {
     let mut k = first;
     while k < end {
-        if block_shares(nodes, names, node::name(names, nodes[k]), k + 1, end) {
+        let next = branch::next_child(nodes, k);
+        if block_shares(nodes, names, node::name(names, nodes[k]), next, end) {
             return true;
         }
-        k += 1;
+        k = next;
     }
     false
 }
@@ -184,7 +163,7 @@ fn blocks_share(
     from: usize,
     to: usize,
 ) -> bool
-    requires { ⌜ Block (now nodes) (now names) first end × Block (now nodes) (now names) from to ⌝ }
+    requires { ⌜ NamedBlock (now nodes) (now names) first end × NamedBlock (now nodes) (now names) from to ⌝ }
     ensures { λ r. ⌜ Decides (BlocksShare (now (nodes .entry)) (now (names .entry)) first end from to) r ⌝ }
 {
     let mut k = from;
@@ -192,27 +171,27 @@ fn blocks_share(
         if block_shares(nodes, names, node::name(names, nodes[k]), first, end) {
             return true;
         }
-        k += 1;
+        k = branch::next_child(nodes, k);
     }
     false
 }
 
 // Whether a node of a block shares a spelling with the name. Most are told apart by their first byte.
 fn block_shares(nodes: &[u64], names: &[u8], name: &[u8], first: usize, end: usize) -> bool
-    requires { ⌜ Block (now nodes) (now names) first end × Name (now name) ⌝ }
+    requires { ⌜ NamedBlock (now nodes) (now names) first end × Name (now name) ⌝ }
     ensures { λ r. ⌜ Decides (SharesIn (now (nodes .entry)) (now (names .entry)) (now (name .entry)) first end) r ⌝ }
 {
     let initial = name[0];
     let mut k = first;
     while k < end {
         let word = nodes[k];
-        if names[node::name_start(word)] == initial {
+        if node::initial(names, word) == initial {
             if name::is_spelling_shared(name, node::name(names, word)) {
                 return true;
             }
-            k += 1;
+            k = branch::next_child(nodes, k);
         } else {
-            k += 1;
+            k = branch::next_child(nodes, k);
         }
     }
     false

@@ -30,15 +30,15 @@ use Rattle.tree.specs.Heard as heard
 use Rattle.tree.specs.Worked.{nodes, names}
 use Rattle.tree.proofs.Claims as trees
 use Rattle.tree.proofs.Worked.{worked}
-use Rattle.unit.specs.Entry.{metAt}
-use Rattle.unit.specs.Items as items
-use Rattle.unit.specs.declared.Data.the-variants as found
+use Rattle.items.specs.Entry.{metAt}
+use Rattle.items.specs.Items as items
+use Rattle.items.specs.declared.Data.the-variants as found
 use Rattle.unit.specs.Unit.{separated, at-unit, at-end, whole}
 use Rattle.message.specs.Message.{none, next, text}
 use Rattle.together.specs.Example.{example, Worked}
 
 -- what the routes say of a header is what it is answered
-begins-by : (at : State) (rooted : Bool) (words : List (List ℕ)) (query : Bool) (end : Stop) (behind : State) (b c kept : ℕ) → branch nodes b ≡ true
+begins-by : (at : State) (rooted : Bool) (words : List (List ℕ)) (query : Bool) (end : Stop) (behind b c kept : ℕ) → branch nodes b ≡ true
     → Spoken example end behind words query at rooted → Leads nodes names (cond rooted 0 b) words c kept
     → Begins nodes names example b (seenAt example at) (header.Found c query kept end behind)
 begins-by at rooted words query end behind b c kept m x l =
@@ -48,34 +48,34 @@ begins-by at rooted words query end behind b c kept m x l =
 
 -- the headers as they are heard
 
-closes : Spoken example stop.Separator (stateOf 10 false false) (ascii "ROUT" ∷ ascii "CLOS" ∷ []) false ofMessage false
+closes : Spoken example stop.Separator 10 (ascii "ROUT" ∷ ascii "CLOS" ∷ []) false ofMessage false
 unfolding seenAt turnOf behindColon step byKind readAs passed colonBefore questionBefore wordAt taken refusal ended kindOf mnemonic starEnd colonTo followsColon questionTo followsQuery partOf run runEnd standsAt every isWhiteSpace isCapital isSmall isDigit isLetter inMnemonic isSign isQuote
 closes = heard.from-branch refl refl (heard.word refl refl (heard.word refl refl (heard.stop refl refl)))
 
-opens : Spoken example stop.Separator (stateOf 26 false false) (ascii "OPEN" ∷ []) false (stateOf 21 true false) false
+opens : Spoken example stop.Separator 26 (ascii "OPEN" ∷ []) false (stateOf 21 true false) false
 unfolding seenAt turnOf behindColon step byKind readAs passed colonBefore questionBefore wordAt taken refusal ended kindOf mnemonic starEnd colonTo followsColon questionTo followsQuery partOf run runEnd standsAt every isWhiteSpace isCapital isSmall isDigit isLetter inMnemonic isSign isQuote
 opens = heard.from-branch refl refl (heard.word refl refl (heard.stop refl refl))
 
-identifies : Begins nodes names example 2 (seenAt example (stateOf 31 true false)) (header.Found 1 true 2 stop.Unit (stateOf 37 true false))
+identifies : Begins nodes names example 2 (seenAt example (stateOf 31 true false)) (header.Found 1 true 2 stop.Unit 37)
 unfolding seenAt turnOf behindColon step byKind readAs passed colonBefore questionBefore wordAt taken refusal ended kindOf mnemonic starEnd colonTo followsColon questionTo followsQuery partOf run runEnd standsAt every isWhiteSpace isCapital isSmall isDigit isLetter inMnemonic isSign isQuote isBranch
 identifies =
     let z = headers.claims .some-answer nodes names example 2 (seenAt example (stateOf 31 true false)) in
     let y =
-    trees.claims .common-anywhere nodes names 2 example (stateOf 31 true false) (viewOf 31 35) (ascii "*IDN" ∷ []) true stop.Unit (stateOf 37 true false) (z .0) (worked .accepted) refl refl refl
+    trees.claims .common-anywhere nodes names 2 example (stateOf 31 true false) (viewOf 31 35) (ascii "*IDN" ∷ []) true stop.Unit 37 (z .0) (worked .accepted) refl refl refl
     (heard.word refl refl (heard.asked refl refl refl)) (z .1) in
     subst (λ (r : Header). Begins nodes names example 2 (seenAt example (stateOf 31 true false)) r) (y .2 ∙ ap (keeping 2) (y .1 .command 1 0 .1 (worked .identify))) (z .1)
 
-asks : Spoken example stop.Text (stateOf 43 false false) (ascii "VOLT" ∷ []) true (stateOf 37 true false) true
+asks : Spoken example stop.Text 43 (ascii "VOLT" ∷ []) true (stateOf 37 true false) true
 unfolding seenAt turnOf behindColon step byKind readAs passed colonBefore questionBefore wordAt taken refusal ended kindOf mnemonic starEnd colonTo followsColon questionTo followsQuery partOf run runEnd standsAt every isWhiteSpace isCapital isSmall isDigit isLetter inMnemonic isSign isQuote
 asks = heard.from-root refl (heard.word refl refl (heard.asked refl refl refl))
 
 -- the items
 
-first-list : items.Items example (stateOf 10 false false) (found.Items 1 (stateOf 21 true false))
+first-list : items.Items example (stateOf 10 false false) (found.Items 1 21)
 unfolding metAt step byKind readAs taken refusal ended kindOf expressionData bracketed inExpression followed endsData run runEnd standsAt isWhiteSpace isCapital isSmall isDigit isLetter isSign isQuote isAscii
 first-list = items.some refl (items.ended refl)
 
-second-list : items.Items example (stateOf 26 false false) (found.Items 1 (stateOf 31 true false))
+second-list : items.Items example (stateOf 26 false false) (found.Items 1 31)
 unfolding metAt step byKind readAs taken refusal ended kindOf expressionData bracketed inExpression followed endsData run runEnd standsAt isWhiteSpace isCapital isSmall isDigit isLetter isSign isQuote isAscii
 second-list = items.some refl (items.ended refl)
 

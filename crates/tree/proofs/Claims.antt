@@ -69,7 +69,7 @@ no-star w m = go (eqb (getD w 0 0) 42) refl
 module _ (t names : List ℕ) (b : ℕ) (s : List ℕ) (words : List (List ℕ)) (query : Bool) (ok : Tree t names) (m : branch t b ≡ true) where
   -- what the header is answered, and what the whole text is
   record Heard (start : ℕ) (r : Header) : Type 0 where
-    last : State
+    last : ℕ
     outcome : Outcome t names query end.Text last start start words r
 
   -- from the branch itself
@@ -160,8 +160,8 @@ module _ {A : Type 0} (found : ℕ → ℕ → A) (no : A) (tell : Telling found
 
 -- a header's answer, and that of resolution alone, tell what they say
 
-header-tells : (query : Bool) (end : Stop) (st : State) → Telling (λ c kept. found.Found c query kept end st) (found.Refused UndefinedHeader)
-header-tells query end st = record { isFound = isFound; commandIn = commandIn; keptIn = keptIn; is-found = λ c kept. refl; is-not = refl; command-told = λ c kept. refl; kept-told = λ c kept. refl }
+header-tells : (query : Bool) (end : Stop) (place : ℕ) → Telling (λ c kept. found.Found c query kept end place) (found.Refused UndefinedHeader)
+header-tells query end place = record { isFound = isFound; commandIn = commandIn; keptIn = keptIn; is-found = λ c kept. refl; is-not = refl; command-told = λ c kept. refl; kept-told = λ c kept. refl }
   where
     isFound : Header → Bool
     isFound (found.Found c q kept x at) = true
@@ -192,15 +192,15 @@ alone-tells query = record { isFound = isFound; commandIn = commandIn; keptIn = 
 
 -- a header that is heard, and the whole text that it is
 module _ (t names : List ℕ) (words : List (List ℕ)) (query : Bool) where
-  of-header : {b : ℕ} {r : Header} {x : Stop} {st : State} → Outcome t names query x st b b words r
-      → Final (λ c kept. found.Found c query kept x st) (found.Refused UndefinedHeader) t names b words r
+  of-header : {b : ℕ} {r : Header} {x : Stop} {place : ℕ} → Outcome t names query x place b b words r
+      → Final (λ c kept. found.Found c query kept x place) (found.Refused UndefinedHeader) t names b words r
   of-header (routed {stages} {leaf} {kept} x) = leads (record { stages = stages; leaf = leaf; route = x; command = refl })
   of-header (lost l) = fails (λ c kept x. l (x .stages) (x .leaf) kept (x .route))
 
   abbrev Alone : ℕ → Resolved → Type 0
   Alone b = Final (λ c kept. Command c query kept) (Refused UndefinedHeader) t names b words
 
-  final-of : {b : ℕ} {r : Header} {st : State} → Outcome t names query end.Text st b b words r → Alone b (closing r)
+  final-of : {b : ℕ} {r : Header} {place : ℕ} → Outcome t names query end.Text place b b words r → Alone b (closing r)
   final-of (routed {stages} {leaf} {kept} x) = leads (record { stages = stages; leaf = leaf; route = x; command = refl })
   final-of (lost l) = fails (λ c kept x. l (x .stages) (x .leaf) kept (x .route))
 
@@ -214,7 +214,7 @@ answers : (t names : List ℕ) (b : ℕ) (words : List (List ℕ)) (query : Bool
     → Final (λ c kept. Command c query kept) (Refused UndefinedHeader) t names b words r → Answers t names b words query r
 answers t names b words query ok = routed-so _ _ (alone-tells query) t names b words ok
 
-anywhere : (t names : List ℕ) (b : ℕ) (s : List ℕ) (at : State) (rooted : Bool) (words : List (List ℕ)) (query : Bool) (x : Stop) (behind : State) (r : Header)
+anywhere : (t names : List ℕ) (b : ℕ) (s : List ℕ) (at : State) (rooted : Bool) (words : List (List ℕ)) (query : Bool) (x : Stop) (behind : ℕ) (r : Header)
     → Accepted t names → branch t b ≡ true → Spoken s x behind words query at rooted → Begins t names s b (seenAt s at) r
     → Routed (λ c kept. found.Found c query kept x behind) (found.Refused UndefinedHeader) t names (cond rooted 0 b) words r
 anywhere t names b s at rooted words query x behind r a m y g =
@@ -232,7 +232,7 @@ anywhere t names b s at rooted words query x behind r a m y g =
         rooted-so : {q : Header} → Began t names s b (seenAt s at) ahead.Colon q → Outcome t names query x behind 0 0 words q
         rooted-so (at-root z) = heard ok h z
 
-common-anywhere : (t names : List ℕ) (b : ℕ) (s : List ℕ) (at : State) (v : View) (words : List (List ℕ)) (query : Bool) (x : Stop) (behind : State) (r : Header)
+common-anywhere : (t names : List ℕ) (b : ℕ) (s : List ℕ) (at : State) (v : View) (words : List (List ℕ)) (query : Bool) (x : Stop) (behind : ℕ) (r : Header)
     → Accepted t names → branch t b ≡ true → (seenAt s at) .ahead ≡ ahead.Word v → isCommon s v ≡ true → Hears s x behind words query (seenAt s at)
     → Begins t names s b (seenAt s at) r
     → (a : Header) × Routed (λ c kept. found.Found c query kept x behind) (found.Refused UndefinedHeader) t names 0 words a × (r ≡ keeping b a)
@@ -271,7 +271,7 @@ module _ (t names : List ℕ) (b : ℕ) (s word : List ℕ) (query : Bool) (ok :
   abbrev Kept : Resolved → Type 0
   Kept r = (a : Resolved) × Answers t names 0 (word ∷ []) query a × (r ≡ withBranch b a)
 
-  kept-so : {r : Header} {st : State} → Outcome t names query end.Text st 0 0 (word ∷ []) r → closing (keeping b r) ≡ withBranch b (closing r)
+  kept-so : {r : Header} {place : ℕ} → Outcome t names query end.Text place 0 0 (word ∷ []) r → closing (keeping b r) ≡ withBranch b (closing r)
   kept-so (routed x) = refl
   kept-so (lost l) = refl
 

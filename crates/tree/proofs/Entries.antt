@@ -14,13 +14,12 @@ use Rattle.table.specs.declared.Checked.{Checked}
 use Rattle.table.specs.declared.Checked.the-variants as checked
 use Rattle.table.proofs.Told.{faultless}
 use Rattle.tokenizer.specs.Step.{ofMessage}
-use Rattle.tokenizer.specs.declared.State.{State}
 use Rattle.ahead.specs.Seen.{seenAt}
 use Rattle.header.specs.Header.{Begins}
 use Rattle.ahead.specs.declared.Stop.{Stop}
 use Rattle.header.specs.declared.Header.{Header}
 use Rattle.header.specs.declared.Header.the-variants as header
-use Rattle.tree.specs.Alone.{aloneWith, closing, Resolves, no-branch, too-long, one-header, ResolvesAlone, fault, sound}
+use Rattle.tree.specs.Alone.{aloneWith, closing, longestMessage, Resolves, no-branch, too-long, one-header, ResolvesAlone, fault, sound}
 use Rattle.tree.specs.declared.Resolved.{Resolved}
 use Rattle.tree.specs.declared.Resolved.the-variants as resolved
 
@@ -37,18 +36,18 @@ module _ (t names : List ℕ) (b : ℕ) (s : List ℕ) (r : Bool) (e : r ≡ isB
   no-start′ q = no-branch (sym e ∙ not-true r q)
 
   module _ (q : not r ≡ false) where
-    pub too-long′ : 65535 < length s → Resolves t names b s (resolved.Refused refusal.MessageTooLong)
+    pub too-long′ : longestMessage < length s → Resolves t names b s (resolved.Refused refusal.MessageTooLong)
     too-long′ h = too-long (sym e ∙ not-false r q) h
 
-    module _ (h : length s ≤ 65535) (f : State) (ef : f ≡ ofMessage) (x : Header) (g : Begins t names s b (seenAt s f) x) where
+    module _ (h : length s ≤ longestMessage) (x : Header) (g : Begins t names s b (seenAt s ofMessage) x) where
       whole : Resolves t names b s (closing x)
-      whole = one-header (sym e ∙ not-false r q) h (rw ef at g)
+      whole = one-header (sym e ∙ not-false r q) h g
 
       pub refused′ : (c : ErrorCode) → x ≡ header.Refused c → Resolves t names b s (resolved.Refused c)
       refused′ c y = rw y at whole
 
-      pub found′ : (c kept : ℕ) (query : Bool) (end : Stop) (st : State) → x ≡ header.Found c query kept end st → (a : Resolved) → a ≡ aloneWith c query kept end → Resolves t names b s a
-      found′ c kept query end st y a ea = rw ea (rw y at whole)
+      pub found′ : (c kept : ℕ) (query : Bool) (end : Stop) (place : ℕ) → x ≡ header.Found c query kept end place → (a : Resolved) → a ≡ aloneWith c query kept end → Resolves t names b s a
+      found′ c kept query end place y a ea = rw ea (rw y at whole)
 
 pub ruleset accepted-laws = (needs, no-start′, too-long′, refused′, found′)
 

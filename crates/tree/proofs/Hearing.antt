@@ -11,19 +11,20 @@ use Rattle.mnemonic.proofs.Spelling.{match-spells}
 use Rattle.node.specs.Word.{commandNumber}
 use Rattle.node.specs.Tree.{default, first, count, nameOf, Child}
 use Rattle.table.specs.Claims.{Tree}
-use Rattle.branch.specs.Children.{Below, spokenBy, unsaidIn, Picks, first-one, not-one}
+use Rattle.branch.specs.Children.{Below, unsaidIn, Picks, first-one, not-one}
 use Rattle.branch.specs.declared.Pick.the-variants as pick
 use Rattle.token.specs.View.{partOf, viewOf}
 use Rattle.token.specs.declared.View.{View}
 use Rattle.tokenizer.specs.declared.State.{State}
+use Rattle.spoken.specs.Spoken.{spokenBy}
 use Rattle.ahead.specs.Seen.{seenWith, seenAt}
 use Rattle.header.specs.Header.{behindQuery, queryAnswer, atLeaf, leafAnswer, atBranch, turnOf, undefined, Reads, leaf, refused, said, unsaid, unknown, ended, nowhere}
 use Rattle.ahead.specs.declared.Stop.{Stop}
 use Rattle.ahead.specs.declared.Ahead.{Ahead}
 use Rattle.ahead.specs.declared.Ahead.the-variants as ahead
 use Rattle.ahead.specs.declared.Seen.{Seen}
-use Rattle.header.specs.declared.Turn.{Turn}
-use Rattle.header.specs.declared.Turn.the-variants as turn
+use Rattle.header.specs.Turn.{Turn}
+use Rattle.header.specs.Turn as turn
 use Rattle.header.specs.declared.Header.{Header}
 use Rattle.header.specs.declared.Header.the-variants as header
 use Rattle.tree.specs.Heard.{Hears, stop, asked, word}
@@ -61,21 +62,22 @@ module _ (s : List ℕ) (seen : Seen) where
   asks e = ap (atBranch s (seen .state)) e
 
   -- a leaf's answer
-  leaf-stops : (c h : ℕ) {x : Stop} {st : State} → seen .ahead ≡ ahead.Stop x → seen .state ≡ st → leafAnswer s c h seen ≡ header.Found c false h x st
+  leaf-stops : (w h : ℕ) {x : Stop} {place : ℕ} → seen .ahead ≡ ahead.Stop x → seen .state .place ≡ place
+      → leafAnswer s w h seen ≡ header.Found (commandNumber w) false h x place
   unfolding leafAnswer
-  leaf-stops c h {x} e f = ap (atLeaf s c h (seen .state)) e ∙ ap (header.Found c false h x) f
+  leaf-stops w h {x} e f = ap (atLeaf s w h (seen .state)) e ∙ ap (header.Found (commandNumber w) false h x) f
 
-  leaf-asks : (c h : ℕ) {x : Stop} {st : State} → seen .ahead ≡ ahead.Query → (seenAt s (seen .state)) .ahead ≡ ahead.Stop x → (seenAt s (seen .state)) .state ≡ st
-      → leafAnswer s c h seen ≡ header.Found c true h x st
+  leaf-asks : (w h : ℕ) {x : Stop} {place : ℕ} → seen .ahead ≡ ahead.Query → (seenAt s (seen .state)) .ahead ≡ ahead.Stop x → (seenAt s (seen .state)) .state .place ≡ place
+      → leafAnswer s w h seen ≡ header.Found (commandNumber w) true h x place
   unfolding leafAnswer queryAnswer
-  leaf-asks c h {x} e f g =
-      ap (atLeaf s c h (seen .state)) e ∙ ap (behindQuery c h ((seenAt s (seen .state)) .state)) f ∙ ap (header.Found c true h x) g
+  leaf-asks w h {x} e f g =
+      ap (atLeaf s w h (seen .state)) e ∙ ap (behindQuery w h ((seenAt s (seen .state)) .state)) f ∙ ap (header.Found (commandNumber w) true h x) g
 
-  leaf-goes-on : (c h : ℕ) → isWord (turnOf s seen) ≡ true → leafAnswer s c h seen ≡ undefined
+  leaf-goes-on : (w h : ℕ) → isWord (turnOf s seen) ≡ true → leafAnswer s w h seen ≡ undefined
   unfolding turnOf leafAnswer
-  leaf-goes-on c h e = go (seen .ahead) e
+  leaf-goes-on w h e = go (seen .ahead) e
     where
-      go : (x : Ahead) → isWord (atBranch s (seen .state) x) ≡ true → atLeaf s c h (seen .state) x ≡ undefined
+      go : (x : Ahead) → isWord (atBranch s (seen .state) x) ≡ true → atLeaf s w h (seen .state) x ≡ undefined
       go (ahead.Word v) q = refl
       go ahead.Colon q = refl
       go ahead.Query q = absurd (false≢true q)
@@ -138,37 +140,37 @@ stop-refused : {A : Type 0} {x : Turn} {e : ErrorCode} → x ≡ turn.Stop → x
 stop-refused e f = absurd (false≢true (ap isStop (sym f ∙ e)))
 
 -- what follows the word
-hears-on : {s : List ℕ} {end : Stop} {st at at′ : State} {words : List (List ℕ)} {q : Bool} → at′ ≡ at → Hears s end st words q (seenAt s at′)
-    → Hears s end st words q (seenAt s at)
+hears-on : {s : List ℕ} {end : Stop} {place : ℕ} {at at′ : State} {words : List (List ℕ)} {q : Bool} → at′ ≡ at → Hears s end place words q (seenAt s at′)
+    → Hears s end place words q (seenAt s at)
 hears-on e x = rw e at x
 
-pub heard : {t names s : List ℕ} {end : Stop} {st : State} {words : List (List ℕ)} {q : Bool} {h n : ℕ} {seen : Seen} {r : Header}
-    → Tree t names → Hears s end st words q seen → Reads t names s h n seen r → Outcome t names q end st h n words r
-heard {t} {names} {s} {end} {st} {h = h} {n} {seen} ok (stop e g) (leaf m) = rw (leaf-stops s seen (commandNumber (getD t n 0)) h e g) (at-leaf t names false end st m)
-heard {t} {names} {s} {end} {st} {h = h} {n} {seen} ok (asked e f g) (leaf m) = rw (leaf-asks s seen (commandNumber (getD t n 0)) h e f g) (at-leaf t names true end st m)
-heard {t} {names} {s} {end} {st} {q = q} {h} {n} {seen} ok (word e p x) (leaf m) = rw (leaf-goes-on s seen (commandNumber (getD t n 0)) h (ap isWord e)) (past-leaf t names q end st m)
+pub heard : {t names s : List ℕ} {end : Stop} {place : ℕ} {words : List (List ℕ)} {q : Bool} {h n : ℕ} {seen : Seen} {r : Header}
+    → Tree t names → Hears s end place words q seen → Reads t names s h n seen r → Outcome t names q end place h n words r
+heard {t} {names} {s} {end} {place} {h = h} {n} {seen} ok (stop e g) (leaf m) = rw (leaf-stops s seen (getD t n 0) h e g) (at-leaf t names false end place m)
+heard {t} {names} {s} {end} {place} {h = h} {n} {seen} ok (asked e f g) (leaf m) = rw (leaf-asks s seen (getD t n 0) h e f g) (at-leaf t names true end place m)
+heard {t} {names} {s} {end} {place} {q = q} {h} {n} {seen} ok (word e p x) (leaf m) = rw (leaf-goes-on s seen (getD t n 0) h (ap isWord e)) (past-leaf t names q end place m)
 heard {s = s} {seen = seen} ok (stop e g) (refused m f) = stop-refused (stops s seen e) f
 heard {s = s} {seen = seen} ok (asked e g i) (refused m f) = stop-refused (asks s seen e) f
 heard ok (word e p x) (refused m f) = no-refusal e f
 heard {s = s} {seen = seen} ok (stop e g) (said m f k r) = no-word f (stops s seen e)
 heard {s = s} {seen = seen} ok (asked e g i) (said m f k r) = no-word f (asks s seen e)
-heard {t} {names} {s} {end} {st} {q = q} ok (word {w = w} e p x) (said {w = u} m f k r) =
+heard {t} {names} {s} {end} {place} {q = q} ok (word {w = w} e p x) (said {w = u} m f k r) =
     let c = picked k .0 .child in
     let z : partOf s u ≡ w = ap (partOf s) (same-view e f) ∙ p in
-    by-word t names q end st ok c (rw z at (sym (says t names ok c (partOf s u)) ∙ picked k .1)) (heard ok (hears-on (same-state f e) x) r)
+    by-word t names q end place ok c (rw z at (sym (says t names ok c (partOf s u)) ∙ picked k .1)) (heard ok (hears-on (same-state f e) x) r)
 heard {s = s} {seen = seen} ok (stop e g) (unsaid m f k d r) = no-word f (stops s seen e)
 heard {s = s} {seen = seen} ok (asked e g i) (unsaid m f k d r) = no-word f (asks s seen e)
-heard {t} {names} {s} {end} {st} {q = q} ok (word {w = w} e p x) (unsaid {w = u} {st = at} m f k d r) =
+heard {t} {names} {s} {end} {place} {q = q} ok (word {w = w} e p x) (unsaid {w = u} {st = at} m f k d r) =
     let z : partOf s u ≡ w = ap (partOf s) (same-view e f) ∙ p in
-    by-default t names q end st (rw z at (never-said t names ok (partOf s u) k)) ok (picked d .0 .child) (is-default t names ok d) (heard ok (word (again s u at) z (hears-on (same-state f e) x)) r)
+    by-default t names q end place (rw z at (never-said t names ok (partOf s u) k)) ok (picked d .0 .child) (is-default t names ok d) (heard ok (word (again s u at) z (hears-on (same-state f e) x)) r)
 heard {s = s} {seen = seen} ok (stop e g) (unknown m f k d) = no-word f (stops s seen e)
 heard {s = s} {seen = seen} ok (asked e g i) (unknown m f k d) = no-word f (asks s seen e)
-heard {t} {names} {s} {end} {st} {q = q} ok (word {w = w} e p x) (unknown {w = u} m f k d) =
+heard {t} {names} {s} {end} {place} {q = q} ok (word {w = w} e p x) (unknown {w = u} m f k d) =
     let z : partOf s u ≡ w = ap (partOf s) (same-view e f) ∙ p in
-    unspelled t names q end st (rw z at (never-said t names ok (partOf s u) k)) (never-default t names ok d)
-heard {t} {names} {end = end} {st} ok (stop e g) (ended m f d r) = at-end t names false end st ok (picked d .0 .child) (is-default t names ok d) (heard ok (stop e g) r)
-heard {t} {names} {end = end} {st} ok (asked e g i) (ended m f d r) = at-end t names true end st ok (picked d .0 .child) (is-default t names ok d) (heard ok (asked e g i) r)
+    unspelled t names q end place (rw z at (never-said t names ok (partOf s u) k)) (never-default t names ok d)
+heard {t} {names} {end = end} {place} ok (stop e g) (ended m f d r) = at-end t names false end place ok (picked d .0 .child) (is-default t names ok d) (heard ok (stop e g) r)
+heard {t} {names} {end = end} {place} ok (asked e g i) (ended m f d r) = at-end t names true end place ok (picked d .0 .child) (is-default t names ok d) (heard ok (asked e g i) r)
 heard ok (word e p x) (ended m f d r) = no-word e f
-heard {t} {names} {end = end} {st} ok (stop e g) (nowhere m f d) = no-default t names false end st m (never-default t names ok d)
-heard {t} {names} {end = end} {st} ok (asked e g i) (nowhere m f d) = no-default t names true end st m (never-default t names ok d)
+heard {t} {names} {end = end} {place} ok (stop e g) (nowhere m f d) = no-default t names false end place m (never-default t names ok d)
+heard {t} {names} {end = end} {place} ok (asked e g i) (nowhere m f d) = no-default t names true end place m (never-default t names ok d)
 heard ok (word e p x) (nowhere m f d) = no-word e f

@@ -32,7 +32,7 @@ pub record Said (s : List ℕ) (words : List (List ℕ)) (q : Bool) (st : State)
   pub first : List ℕ
   pub rest : List (List ℕ)
   pub view : View
-  pub last : State
+  pub last : ℕ
   pub parts : words ≡ first ∷ rest
   pub there : (seenAt s st) .ahead ≡ ahead.Word view
   pub shows : partOf s view ≡ first
@@ -58,7 +58,7 @@ said {s} {st = st} (event {v} {w} p) (next e (no-more f)) =
       first = w;
       rest = [];
       view = v;
-      last = (step s ((step s st) .state)) .state;
+      last = (step s ((step s st) .state)) .state .place;
       parts = refl;
       there = token-seen s st e;
       shows = p;
@@ -69,7 +69,7 @@ said {s} {st = st} (query {v} {w} p) (next e (next f (no-more g))) =
       first = w;
       rest = [];
       view = v;
-      last = (step s ((step s ((step s st) .state)) .state)) .state;
+      last = (step s ((step s ((step s st) .state)) .state)) .state .place;
       parts = refl;
       there = token-seen s st e;
       shows = p;

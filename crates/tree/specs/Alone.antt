@@ -27,17 +27,21 @@ aloneWith c query kept stop.Unit = resolved.Refused refusal.SyntaxError
 
 -- the answer for a text whose header was answered so
 abbrev pub closing : Header → Resolved
-closing (header.Found c query kept x st) = aloneWith c query kept x
+closing (header.Found c query kept x p) = aloneWith c query kept x
 closing (header.Refused e) = resolved.Refused e
+
+-- the bytes that a message may have
+abbrev pub longestMessage : ℕ
+longestMessage = 65535
 
 -- The answer for the text s from the branch b of a table that is not checked.
 pub data Resolves (t names : List ℕ) (b : ℕ) (s : List ℕ) : Resolved → Type 0 where
   -- 7: the start is no branch
   no-branch : branch t b ≡ false → Resolves t names b s (resolved.Refused refusal.StartIsNoBranch)
-  -- 9: the text has more than 65,535 bytes
-  too-long : branch t b ≡ true → 65535 < length s → Resolves t names b s (resolved.Refused refusal.MessageTooLong)
+  -- 9: the text is longer than a message may be
+  too-long : branch t b ≡ true → longestMessage < length s → Resolves t names b s (resolved.Refused refusal.MessageTooLong)
   -- then the text itself
-  one-header : {r : Header} → branch t b ≡ true → length s ≤ 65535 → Begins t names s b (seenAt s ofMessage) r → Resolves t names b s (closing r)
+  one-header : {r : Header} → branch t b ≡ true → length s ≤ longestMessage → Begins t names s b (seenAt s ofMessage) r → Resolves t names b s (closing r)
 
 -- The answer where the table is checked first: its smallest fault, 1 to 6, before all else.
 pub data ResolvesAlone (t names : List ℕ) (b : ℕ) (s : List ℕ) : Resolved → Type 0 where

@@ -53,8 +53,8 @@ pub record Claims : Type 0 where
   pub demand : (t names : List ℕ) (b : ℕ) (s : List ℕ) (rooted : Bool) (words : List (List ℕ)) (query : Bool) (r : Resolved)
       → Accepted t names → branch t b ≡ true → WellFormed s rooted words query → ResolvesAlone t names b s r
       → Answers t names (cond rooted 0 b) words query r
-  -- The same at any place of a message: of a header that is heard as these words, and is ended by `end` with the state `behind` it.
-  pub anywhere : (t names : List ℕ) (b : ℕ) (s : List ℕ) (at : State) (rooted : Bool) (words : List (List ℕ)) (query : Bool) (end : Stop) (behind : State) (r : Header)
+  -- The same at any place of a message: of a header that is heard as these words, and is ended by `end` with the place `behind` it.
+  pub anywhere : (t names : List ℕ) (b : ℕ) (s : List ℕ) (at : State) (rooted : Bool) (words : List (List ℕ)) (query : Bool) (end : Stop) (behind : ℕ) (r : Header)
       → Accepted t names → branch t b ≡ true → Spoken s end behind words query at rooted → Begins t names s b (seenAt s at) r
       → Routed (λ c kept. header.Found c query kept end behind) (header.Refused UndefinedHeader) t names (cond rooted 0 b) words r
   -- the header of a common command is answered as from the root, and the branch stays
@@ -62,7 +62,7 @@ pub record Claims : Type 0 where
       → Accepted t names → branch t b ≡ true → Common s word query → ResolvesAlone t names b s r
       → (a : Resolved) × Answers t names 0 (word ∷ []) query a × (r ≡ withBranch b a)
   -- the same of a common command at any place of a message
-  pub common-anywhere : (t names : List ℕ) (b : ℕ) (s : List ℕ) (at : State) (v : View) (words : List (List ℕ)) (query : Bool) (end : Stop) (behind : State) (r : Header)
+  pub common-anywhere : (t names : List ℕ) (b : ℕ) (s : List ℕ) (at : State) (v : View) (words : List (List ℕ)) (query : Bool) (end : Stop) (behind : ℕ) (r : Header)
       → Accepted t names → branch t b ≡ true → (seenAt s at) .ahead ≡ ahead.Word v → isCommon s v ≡ true → Hears s end behind words query (seenAt s at)
       → Begins t names s b (seenAt s at) r
       → (a : Header) × Routed (λ c kept. header.Found c query kept end behind) (header.Refused UndefinedHeader) t names 0 words a × (r ≡ keeping b a)

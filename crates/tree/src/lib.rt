@@ -6,6 +6,8 @@ use error::ErrorCode;
 use header::Header;
 use table::Checked;
 
+pub const LONGEST_MESSAGE: usize = 65535;
+
 // The command that a header names, its form and the branch kept; or a refusal.
 pub enum Resolved {
     Command {
@@ -34,17 +36,17 @@ pub fn resolve_accepted(nodes: &[u64], names: &[u8], start: usize, s: &[u8]) -> 
     if !branch::is_branch(nodes, start) {
         return Resolved::Refused(ErrorCode::StartIsNoBranch);
     }
-    if 65535 < s.len() {
+    if LONGEST_MESSAGE < s.len() {
         return Resolved::Refused(ErrorCode::MessageTooLong);
     }
-    match plain_header::first(nodes, names, s, start) {
+    match header::read(nodes, names, s, start, 0) {
         Header::Refused(e) => Resolved::Refused(e),
         Header::Found {
             command,
             query,
             branch,
             stop,
-            state: _,
+            place: _,
         } => alone(command, query, branch, stop),
     }
 }

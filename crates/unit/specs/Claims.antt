@@ -5,7 +5,6 @@ use mathlib.Core.List.{List}
 use mathlib.Core.Bool.{true}
 use lib.ListN.{length}
 use Rattle.node.specs.Tree.{branch}
-use Rattle.tokenizer.specs.declared.State.{State}
 use Rattle.ahead.specs.declared.Seen.{Seen}
 use Rattle.record.specs.declared.Record.{Record}
 use Rattle.unit.specs.Unit.{Reads}
@@ -17,13 +16,13 @@ pub record Claims : Type 0 where
   pub some-answer : (t names s : List ℕ) (b : ℕ) (seen : Seen) → (r : Unit) × Reads t names s b seen r
   pub one-answer : (t names s : List ℕ) (b : ℕ) (seen : Seen) (r q : Unit) → Reads t names s b seen r → Reads t names s b seen q → r ≡ q
   -- a unit that is read does not go back in the text
-  pub onward : (t names s : List ℕ) (b : ℕ) (seen : Seen) (u : Record) (st : State) → Reads t names s b seen (unit.Read u st)
-      → seen .state .place ≤ st .place
+  pub onward : (t names s : List ℕ) (b : ℕ) (seen : Seen) (u : Record) (p : ℕ) → Reads t names s b seen (unit.Read u p)
+      → seen .state .place ≤ p
   -- it has no more items than the text has bytes
-  pub few-items : (t names s : List ℕ) (b : ℕ) (seen : Seen) (u : Record) (st : State) → Reads t names s b seen (unit.Read u st)
+  pub few-items : (t names s : List ℕ) (b : ℕ) (seen : Seen) (u : Record) (p : ℕ) → Reads t names s b seen (unit.Read u p)
       → u .items ≤ length s
   -- its command has 16 bits
-  pub command-fits : (t names s : List ℕ) (b : ℕ) (seen : Seen) (u : Record) (st : State) → Reads t names s b seen (unit.Read u st) → u .command < 65536
+  pub command-fits : (t names s : List ℕ) (b : ℕ) (seen : Seen) (u : Record) (p : ℕ) → Reads t names s b seen (unit.Read u p) → u .command < 65536
   -- and, in a table whose root is a branch, it keeps a branch
-  pub keeps : (t names s : List ℕ) (b : ℕ) (seen : Seen) (u : Record) (st : State) → Reads t names s b seen (unit.Read u st)
+  pub keeps : (t names s : List ℕ) (b : ℕ) (seen : Seen) (u : Record) (p : ℕ) → Reads t names s b seen (unit.Read u p)
       → branch t 0 ≡ true → branch t (u .branch) ≡ true

@@ -1,27 +1,27 @@
 -- A message unit: a header, its form and its items, IEEE 488.2 7.3.
 use Prim.Native.Nat.{ℕ}
 use mathlib.Core.List.{List}
-use mathlib.Core.Bool.{Bool}
+use mathlib.Core.Bool.{Bool, false}
 use Rattle.error.specs.declared.ErrorCode.{ErrorCode}
-use Rattle.tokenizer.specs.declared.State.{State}
+use Rattle.tokenizer.specs.Step.{stateOf}
 use Rattle.header.specs.Header.{Begins}
 use Rattle.ahead.specs.declared.Seen.{Seen}
 use Rattle.ahead.specs.declared.Stop.{Stop}
 use Rattle.ahead.specs.declared.Stop.the-variants as stop
 use Rattle.header.specs.declared.Header.the-variants as header
 use Rattle.record.specs.declared.Record.{Record}
-use Rattle.unit.specs.Items.{Items}
-use Rattle.unit.specs.declared.Data.{Data}
-use Rattle.unit.specs.declared.Data.the-variants as found
+use Rattle.items.specs.Items.{Items}
+use Rattle.items.specs.declared.Data.{Data}
+use Rattle.items.specs.declared.Data.the-variants as found
 use Rattle.unit.specs.declared.Unit.{Unit}
 use Rattle.unit.specs.declared.Unit.the-variants as unit
 
--- Behind s x st r: the data behind a header that x ended. IEEE 488.2 7.4.3: data stand behind white space; a header that `;` or the end of
--- the text ends has none.
-pub data Behind (s : List ℕ) : Stop → State → Data → Type 0 where
-  separated : {st : State} {r : Data} → Items s st r → Behind s stop.Separator st r
-  at-unit : {st : State} → Behind s stop.Unit st (found.Items 0 st)
-  at-end : {st : State} → Behind s stop.Text st (found.Items 0 st)
+-- Behind s x p r: the data after a header that x ended before the place p. IEEE 488.2 7.4.3: data follow white space; a header that `;` or the
+-- end of the text ends has none. A star before them changes nothing about data, so that they are read as after any header.
+pub data Behind (s : List ℕ) : Stop → ℕ → Data → Type 0 where
+  separated : {p : ℕ} {r : Data} → Items s (stateOf p false false) r → Behind s stop.Separator p r
+  at-unit : {p : ℕ} → Behind s stop.Unit p (found.Items 0 p)
+  at-end : {p : ℕ} → Behind s stop.Text p (found.Items 0 p)
 
 abbrev pub recordOf : ℕ → Bool → ℕ → ℕ → Record
 recordOf c query kept n = record { command = c; query = query; branch = kept; items = n }
@@ -30,9 +30,9 @@ recordOf c query kept n = record { command = c; query = query; branch = kept; it
 -- the items.
 pub data Reads (t names s : List ℕ) (b : ℕ) (seen : Seen) : Unit → Type 0 where
   no-command : {e : ErrorCode} → Begins t names s b seen (header.Refused e) → Reads t names s b seen (unit.Refused e)
-  no-data : {c : ℕ} {query : Bool} {kept : ℕ} {x : Stop} {st : State} {e : ErrorCode}
-      → Begins t names s b seen (header.Found c query kept x st) → Behind s x st (found.Refused e)
+  no-data : {c : ℕ} {query : Bool} {kept : ℕ} {x : Stop} {p : ℕ} {e : ErrorCode}
+      → Begins t names s b seen (header.Found c query kept x p) → Behind s x p (found.Refused e)
       → Reads t names s b seen (unit.Refused e)
-  whole : {c : ℕ} {query : Bool} {kept : ℕ} {x : Stop} {st next : State} {n : ℕ}
-      → Begins t names s b seen (header.Found c query kept x st) → Behind s x st (found.Items n next)
+  whole : {c : ℕ} {query : Bool} {kept : ℕ} {x : Stop} {p next : ℕ} {n : ℕ}
+      → Begins t names s b seen (header.Found c query kept x p) → Behind s x p (found.Items n next)
       → Reads t names s b seen (unit.Read (recordOf c query kept n) next)

@@ -1,6 +1,7 @@
 -- Laws of runs, over any class p, as a loop that passes over one meets them.
 use Prim.Native.Nat.{ℕ, suc, _+_, _≤_, _<_}
 use mathlib.Core.Path.{_≡_, refl, sym, _∙_}
+use mathlib.Core.Logic.{_⊎_, inl, inr}
 use mathlib.Core.List.{List, [], _∷_}
 use mathlib.Core.Bool.{Bool, true, false, cond, not}
 use native.Mathlib.Omega.{arith}
@@ -8,10 +9,10 @@ use native.Mathlib.Numerals.{add-one}
 use lib.ListN.{length, getD, drop, drop-of-length-le, List·getD-eq-default}
 use lib.Seq.{drop-cons, drop-drop}
 use borrow.Author.Needs.{needs}
-use lib.Dec.{eqb}
-use borrow.Author.Tests.{not-true, not-false, lt-ltb, le-ltb}
+use lib.Dec.{eqb, ltb}
+use borrow.Author.Tests.{not-true, not-false, ltb-true, ltb-false, lt-ltb, le-ltb}
 use Rattle.kind.specs.Class.{isSign}
-use Rattle.util.specs.Run.{run, runEnd, signEnd, standsAt}
+use Rattle.util.specs.Run.{run, runEnd, signEnd, standsAt, least}
 
 module _ (p : ℕ → Bool) (s : List ℕ) (i : ℕ) where
   pub run-past : length s ≤ i → runEnd p s i ≡ i
@@ -78,3 +79,32 @@ module _ (s : List ℕ) (at : ℕ) where
   stands-inside′ b h = rw (lt-ltb at (length s) h)
 
 pub ruleset laws = (needs, stop′, more′, past′, sign-past′, sign-there′, sign-none′, stands-past′, stands-inside′)
+
+-- the smaller of two numbers
+
+pub least-left′ : (a b : ℕ) → a < b → a ≡ least a b
+unfolding least
+least-left′ a b h = rw (lt-ltb a b h)
+
+pub least-right′ : (a b : ℕ) → b ≤ a → b ≡ least a b
+unfolding least
+least-right′ a b h = rw (le-ltb a b h)
+
+pub least-le : (a b : ℕ) → (least a b ≤ a) × (least a b ≤ b)
+unfolding least
+least-le a b = go (ltb a b) refl
+  where
+    go : (c : Bool) → ltb a b ≡ c → (cond c a b ≤ a) × (cond c a b ≤ b)
+    go true e = (omega arith, omega (arith, ltb-true a b e))
+    go false e = (omega (arith, ltb-false a b e), omega arith)
+
+-- what is not before the smaller of two is not before one of them
+pub not-least : (a b i : ℕ) → least a b ≤ i → (a ≤ i) ⊎ (b ≤ i)
+unfolding least
+not-least a b i = go (ltb a b)
+  where
+    go : (c : Bool) → cond c a b ≤ i → (a ≤ i) ⊎ (b ≤ i)
+    go true h = inl h
+    go false h = inr h
+
+pub ruleset least-laws = (needs, least-left′, least-right′)

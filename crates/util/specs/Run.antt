@@ -27,3 +27,7 @@ standsAt b s at = ltb at (length s) && eqb (getD s at 0) b
 unfoldable pub every : (ℕ → Bool) → List ℕ → Bool
 every p [] = true
 every p (b ∷ s) = p b && every p s
+
+-- the smaller of two numbers
+unfoldable pub least : ℕ → ℕ → ℕ
+least a b = cond (ltb a b) a b

@@ -1,7 +1,7 @@
 // Runs that the readers pass over. tokenizer/util.rs of the original.
 ghost use mathlib.Core.Path.{_≡_};
 ghost use Rattle.kind.specs.Class.{isWhiteSpace, isDigit};
-ghost use Rattle.util.specs.Run.{runEnd, signEnd, standsAt};
+ghost use Rattle.util.specs.Run.{runEnd, signEnd, standsAt, least};
 
 // The place behind the white space that begins at a place.
 pub fn skip_ws(s: &[u8], at: usize) -> usize
@@ -52,4 +52,14 @@ pub fn stands(s: &[u8], at: usize, b: u8) -> bool
         return s[at] == b;
     }
     false
+}
+
+// The smaller of two numbers.
+pub fn least(a: usize, b: usize) -> usize
+    ensures { λ r. ⌜ r ≡ least a b ⌝ }
+{
+    if a < b {
+        return a;
+    }
+    b
 }

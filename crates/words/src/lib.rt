@@ -12,6 +12,9 @@ use error::ErrorCode;
 use token::Token;
 use token::View;
 
+// A step of tokens or lists begins with so many lent words, and leaves its answer in them.
+pub const STEP_WORDS: usize = 8;
+
 // What a step says: its number, the dimension, the kind and the views.
 struct Said {
     code: i16,
@@ -118,7 +121,7 @@ pub fn put_numeric(words: &mut [u64], step: numeric_list::Step) -> i16
 fn put(words: &mut [u64], place: usize, second: bool, third: u64, said: Said) -> i16
     ensures { λ r. ⌜ record { code = r; words = now (words .exit) } ≡ leftIn (now (words .entry)) place second third said ⌝ }
 {
-    if words.len() < 8 {
+    if words.len() < STEP_WORDS {
         return ErrorCode::NoSlotLeft.get_code();
     }
     words[0] = place as u64;

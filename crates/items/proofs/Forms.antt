@@ -1,0 +1,237 @@
+-- Laws of reading one item of data by its form, as the code meets them.
+use Prim.Native.Nat.{ℕ, _+_, _-_, _≤_, _<_}
+use mathlib.Core.Path.{_≡_, refl, sym, ap, subst, _∙_}
+use mathlib.Core.Logic.{_⊎_, inl, inr, ⊎-elim}
+use mathlib.Core.List.{List}
+use mathlib.Core.Bool.{Bool, true, false, not, _||_}
+use native.Mathlib.Omega.{arith}
+use lib.Dec.{eqb, leb}
+use lib.ListN.{length, getD}
+use borrow.Author.Needs.{needs}
+use borrow.Author.Tests.{eqb-true, leb-true, le-leb, lt-leb, ne-eqb}
+use Rattle.error.specs.declared.ErrorCode.{ErrorCode}
+use Rattle.error.specs.declared.ErrorCode.the-variants.{SyntaxError}
+use Rattle.kind.specs.Class.{is, isWhiteSpace, isCapital, isSmall, isDigit, isLetter, isSign, isQuote, isAscii, inMnemonic}
+use Rattle.kind.specs.Kind.{kindOf}
+use Rattle.kind.proofs.Bytes.{agrees}
+use Rattle.kind.proofs.Tests.{by-test, either, or-left, or-right, and-right, clash, less-or-not}
+use Rattle.util.specs.Run.{runEnd}
+use Rattle.token.specs.declared.Token.{Token}
+use Rattle.token.specs.declared.Token.the-variants.{HeaderMnemonicSeparator, HeaderQuerySuffix, ProgramDataSeparator}
+use Rattle.item.specs.Word.{starEnd, mnemonic, characterData}
+use Rattle.item.specs.declared.Read.{Read}
+use Rattle.item.specs.declared.Read.the-variants as read
+use Rattle.decimal.specs.Decimal.{numericData}
+use Rattle.enclosed.specs.String.{stringData}
+use Rattle.enclosed.specs.Expression.{expressionData}
+use Rattle.hash.specs.Block.{hashData}
+use Rattle.separator.specs.Separator.{newlineTo, colonTo, questionTo, commaTo}
+use Rattle.separator.specs.declared.Pass.{Pass}
+use Rattle.separator.specs.declared.Pass.the-variants as pass
+use Rattle.tokenizer.specs.Step.{taken, refusal, ended, readAs, passed, endedBy, newlineBefore, colonBefore, questionBefore, commaBefore, byKind, step}
+use Rattle.tokenizer.specs.declared.State.{State}
+use Rattle.tokenizer.specs.declared.Answer.{Answer}
+use Rattle.tokenizer.specs.declared.Answer.the-variants as answer
+use Rattle.tokenizer.specs.declared.Step.{Step}
+use Rattle.tokenizer.proofs.Steps.{word-data′, outside-data′, letter′, parenthesis′, hash′, quote′, number′}
+use Rattle.tokenizer.proofs.Claims.{claims}
+use Rattle.items.specs.Entry.{tokenEntry, metWith, metOf, metAt}
+use Rattle.items.specs.Internal.{beginsNumber, beginsData, endsUnit, among, ItemAt, takes, refuses, at-comma, at-end, newlineData}
+use Rattle.items.specs.declared.Data.the-variants as found
+use Rattle.items.proofs.Readers.{DataRead, character-data, numeric-data, expression-data, string-data, hash-data}
+use Rattle.items.proofs.Meets.{met-step, end-met}
+
+-- What begins a number.
+module _ (b : ℕ) where
+  pub digit-begins′ : (r : Bool) → r ≡ isDigit b → r ≡ true → true ≡ beginsNumber b
+  unfolding beginsNumber
+  digit-begins′ r e q = sym (or-left (isSign b || is "." b) (sym e ∙ q))
+
+  pub sign-begins′ : (r : Bool) → r ≡ isSign b → r ≡ true → true ≡ beginsNumber b
+  unfolding beginsNumber
+  sign-begins′ r e q = sym (or-right (isDigit b) (or-left (is "." b) (sym e ∙ q)))
+
+  pub point-begins′ : (r q : Bool) → r ≡ isDigit b → r ≡ false → q ≡ isSign b → q ≡ false → eqb b 46 ≡ beginsNumber b
+  unfolding beginsNumber
+  point-begins′ r q e h f k = rw (← e, h, ← f, k)
+
+pub ruleset begins = (needs, digit-begins′, sign-begins′, point-begins′)
+
+-- the kinds of a sign, a point and a digit
+abbrev ofNumber : ℕ → Bool
+ofNumber k = eqb k 7 || (eqb k 8 || eqb k 15)
+
+numbersOf : ℕ → Bool
+numbersOf b = not (beginsNumber b) || ofNumber (kindOf b)
+
+of-numbers : (b : ℕ) → b < 58 → numbersOf b ≡ true
+unfolding numbersOf kindOf beginsNumber isWhiteSpace isCapital isSmall isDigit isSign isQuote isAscii
+of-numbers b h = agrees numbersOf (λ _. true) 58 b tt h
+
+number-below : (b : ℕ) → beginsNumber b ≡ true → b < 58
+unfolding beginsNumber isDigit isSign
+number-below b e =
+    ⊎-elim (λ k. omega (arith, leb-true b 57 (and-right (leb 48 b) (leb b 57) k)))
+    (λ k. ⊎-elim (λ l. ⊎-elim (λ m. omega (arith, eqb-true b 43 m)) (λ m. omega (arith, eqb-true b 45 m)) (either (eqb b 43) (eqb b 45) l)) (λ l. omega (arith, eqb-true b 46 l))
+    (either (isSign b) (is "." b) k))
+    (either (isDigit b) (isSign b || is "." b) e)
+
+number-kind : (b : ℕ) → beginsNumber b ≡ true → ofNumber (kindOf b) ≡ true
+unfolding numbersOf
+number-kind b e = rw e at (of-numbers b (number-below b e))
+
+-- The data at a newline.
+module _ (s : List ℕ) (next : ℕ) (p : Pass) (e : p ≡ newlineTo s next) where
+  pub newline-over′ : (to : ℕ) → p ≡ pass.To to → found.Items 0 to ≡ newlineData s next
+  unfolding newlineData
+  newline-over′ to q = rw (← e, q)
+
+  pub newline-wrong′ : (c : ErrorCode) → p ≡ pass.Refused c → found.Refused c ≡ newlineData s next
+  unfolding newlineData
+  newline-wrong′ c q = rw (← e, q)
+
+pub ruleset newlines = (needs, newline-over′, newline-wrong′)
+
+-- What is answered at a byte that begins no data.
+abbrev answered : Answer → Read
+answered (answer.Token t) = read.Refused SyntaxError
+answered answer.End = read.Refused SyntaxError
+answered (answer.Refused e) = read.Refused e
+
+module _ (s : List ℕ) (at : ℕ) where
+  abbrev st : State
+  st = among at
+
+  abbrev b : ℕ
+  b = getD s at 0
+
+  abbrev Bare : Step → Type 0
+  Bare x = metAt s st ≡ metOf x → ItemAt s at (answered (x .answer))
+
+  bare-passed : (t : Token) (p : Pass) → ((next : State) → metAt s st ≡ metWith (tokenEntry t) next → ItemAt s at (read.Refused SyntaxError)) → Bare (passed s st t false p)
+  unfolding passed taken refusal
+  bare-passed t (pass.To next) f m = f _ m
+  bare-passed t (pass.Refused e) f m = refuses m
+
+  bare-ended : (p : Pass) → endsUnit s at ≡ true → Bare (endedBy s st p)
+  unfolding endedBy ended refusal
+  bare-ended (pass.To next) z m = at-end z m
+  bare-ended (pass.Refused e) z m = refuses m
+
+  module _ (n : beginsData b ≡ false) where
+    bare-kind : Bare (byKind s st at b (kindOf b))
+    unfolding byKind kindOf newlineBefore colonBefore questionBefore commaBefore mnemonic readAs taken refusal endsUnit beginsData beginsNumber isLetter
+    bare-kind =
+        by-test P (is "\n" b) (λ e. bare-ended (newlineTo s (at + 1)) (or-right (leb (length s) at) (or-left (is ";" b) e)))
+        (λ _. by-test P (isWhiteSpace b) (λ e m. refuses m)
+        (λ _. by-test P (is "*" b) (λ e. by-test (λ (r : Read). Bare (readAs s st true r)) (leb (runEnd inMnemonic s (starEnd s at) - at) 12) (λ _ m. refuses m) (λ _ m. refuses m))
+        (λ _. by-test P (is ":" b) (λ e. bare-passed HeaderMnemonicSeparator (colonTo s (at + 1) false false) (λ _ m. refuses m))
+        (λ _. by-test P (is "?" b) (λ e. bare-passed HeaderQuerySuffix (questionTo s (at + 1) false) (λ _ m. refuses m))
+        (λ _. by-test P (is ";" b) (λ e m. at-end (or-right (leb (length s) at) (or-right (is "\n" b) e)) m)
+        (λ _. by-test P (is "," b) (λ e. bare-passed ProgramDataSeparator (commaTo s (at + 1) false) (λ _ m. at-comma m))
+        (λ _. by-test P (isSign b) (λ e. number (or-right (isDigit b) (or-left (is "." b) e)))
+        (λ _. by-test P (is "." b) (λ e. number (or-right (isDigit b) (or-right (isSign b) e)))
+        (λ _. by-test P (is "#" b) (λ e. begun (or-right (isLetter b) (or-right (beginsNumber b) (or-right (isQuote b) (or-left (is "(" b) e)))))
+        (λ _. by-test P (isQuote b) (λ e. begun (or-right (isLetter b) (or-right (beginsNumber b) (or-left (is "#" b || is "(" b) e))))
+        (λ _. by-test P (is "(" b) (λ e. begun (or-right (isLetter b) (or-right (beginsNumber b) (or-right (isQuote b) (or-right (is "#" b) e)))))
+        (λ _. by-test P (is "_" b) (λ e m. refuses m)
+        (λ _. by-test P (isDigit b) (λ e. number (or-left (isSign b || is "." b) e))
+        (λ _. by-test P (isSmall b) (λ e. letter (or-right (isCapital b) e))
+        (λ _. by-test P (isCapital b) (λ e. letter (or-left (isSmall b) e))
+        (λ _. by-test P (isAscii b) (λ e m. refuses m) (λ e m. refuses m)))))))))))))))))
+      where
+        P : ℕ → Type 0
+        P k = Bare (byKind s st at b k)
+
+        begun : {A : Type 0} → beginsData b ≡ true → A
+        begun e = clash e n
+
+        number : {A : Type 0} → beginsNumber b ≡ true → A
+        number e = begun (or-right (isLetter b) (or-left (isQuote b || (is "#" b || is "(" b)) e))
+
+        letter : {A : Type 0} → isLetter b ≡ true → A
+        letter e = begun (or-left (beginsNumber b || (isQuote b || (is "#" b || is "(" b))) e)
+
+    by-kind : at < length s → byKind s st at b (kindOf b) ≡ step s st
+    unfolding step
+    by-kind h = rw (lt-leb (length s) at h)
+
+    -- the answer of the token step there
+    module _ (x : Step) (e : x ≡ step s st) where
+      bare : (a : Answer) → x .answer ≡ a → ItemAt s at (answered a)
+      unfolding endsUnit
+      bare a q =
+          subst (λ (c : Answer). ItemAt s at (answered c)) q
+          (⊎-elim (λ h. subst Bare (by-kind h ∙ sym e) bare-kind (met-step s st x e))
+          (λ h. subst (λ (y : Step). ItemAt s at (answered (y .answer))) (sym (claims .rests s st h) ∙ sym e) (at-end (or-left (is "\n" b || is ";" b) (le-leb (length s) at h)) (end-met s at h)))
+          (less-or-not at (length s)))
+
+      pub bare-end′ : x .answer ≡ answer.End → ItemAt s at (read.Refused SyntaxError)
+      bare-end′ q = bare answer.End q
+
+      pub bare-refused′ : (c : ErrorCode) → x .answer ≡ answer.Refused c → ItemAt s at (read.Refused c)
+      bare-refused′ c q = bare (answer.Refused c) q
+
+      pub bare-token′ : (t : Token) → x .answer ≡ answer.Token t → ItemAt s at (read.Refused SyntaxError)
+      bare-token′ t q = bare (answer.Token t) q
+
+pub ruleset bares = (needs, bare-end′, bare-refused′, bare-token′)
+
+-- What is read at a place, by the byte there.
+module _ (s : List ℕ) (at : ℕ) where
+  as-item : (r : Read) → DataRead s r → readAs s (among at) false r ≡ step s (among at) → ItemAt s at r
+  unfolding readAs refusal
+  as-item (read.Token t next) d f = takes (sym f) (d .0) (d .1)
+  as-item (read.Refused e) d f = refuses (met-step s (among at) (refusal s (among at) e) f)
+
+  pub none-read′ : length s ≤ at → ItemAt s at (read.Refused SyntaxError)
+  unfolding endsUnit
+  none-read′ h = at-end (or-left (is "\n" (getD s at 0) || is ";" (getD s at 0)) (le-leb (length s) at h)) (end-met s at h)
+
+  module _ (h : at < length s) (r : Read) where
+    abbrev x : Step
+    x = readAs s (among at) false r
+
+    abbrev k : ℕ
+    k = kindOf (getD s at 0)
+
+    pub word-read′ : (q : Bool) → q ≡ isLetter (getD s at 0) → q ≡ true → r ≡ characterData s at → ItemAt s at r
+    word-read′ q e p er = as-item r (rw er (character-data s at)) (letter′ s (among at) h q x e p (word-data′ s (among at) at x refl r er refl))
+
+    pub number-read′ : (q : Bool) → q ≡ beginsNumber (getD s at 0) → q ≡ true → r ≡ numericData s at → ItemAt s at r
+    number-read′ q e p er =
+        as-item r (rw er (numeric-data s at))
+        (number′ s (among at) h k refl x (no 0 refl) (no 1 refl) (no 2 refl) (no 3 refl) (no 4 refl) (no 5 refl) (no 6 refl) (no 9 refl) (no 10 refl) (no 11 refl)
+        (no 12 refl) (no 13 refl) (no 14 refl) (no 16 refl) (no 17 refl)
+        (outside-data′ s (among at) at x (numericData s at) refl r er refl))
+      where
+        no : (m : ℕ) → ofNumber m ≡ false → k ≡ m → ⊥
+        no m f g = clash (sym (ap ofNumber g) ∙ number-kind (getD s at 0) (sym e ∙ p)) f
+
+    pub expression-read′ : getD s at 0 ≡ 40 → r ≡ expressionData s (at + 1) → ItemAt s at r
+    unfolding kindOf isWhiteSpace isSign isQuote
+    expression-read′ e er = as-item r (rw er (expression-data s (at + 1))) (parenthesis′ s (among at) h k refl x (rw e) (rw er))
+
+    pub hash-read′ : getD s at 0 ≡ 35 → r ≡ hashData s (at + 1) → ItemAt s at r
+    unfolding kindOf isWhiteSpace isSign
+    hash-read′ e er =
+        as-item r (rw er (hash-data s (at + 1)))
+        (hash′ s (among at) h k refl x (rw e) (outside-data′ s (among at) at x (hashData s (at + 1)) refl r er refl))
+
+    pub string-read′ : (getD s at 0 ≡ 34) ⊎ (getD s at 0 ≡ 39) → r ≡ stringData (getD s at 0) s (at + 1) → ItemAt s at r
+    unfolding kindOf isWhiteSpace isSign isQuote
+    string-read′ e er =
+        as-item r (rw er (string-data s (getD s at 0) (at + 1)))
+        (quote′ s (among at) h k refl x (kind e) (outside-data′ s (among at) at x (stringData (getD s at 0) s (at + 1)) refl r er refl))
+      where
+        kind : (getD s at 0 ≡ 34) ⊎ (getD s at 0 ≡ 39) → k ≡ 10
+        kind (inl f) = rw f
+        kind (inr f) = rw f
+
+-- a byte that no reader takes begins no data
+pub none-begins′ : (b : ℕ) → (b ≡ 40 → ⊥) → (l : Bool) → l ≡ isLetter b → l ≡ false → (n : Bool) → n ≡ beginsNumber b → n ≡ false → ((b ≡ 34) ⊎ (b ≡ 39) → ⊥) → (b ≡ 35 → ⊥)
+    → beginsData b ≡ false
+unfolding beginsData isQuote
+none-begins′ b p l el fl n en fn q h = rw (← el, fl, ← en, fn, ne-eqb b 34 (λ e. q (inl e)), ne-eqb b 39 (λ e. q (inr e)), ne-eqb b 35 h, ne-eqb b 40 p)
+
+pub ruleset forms = (needs, none-read′, word-read′, number-read′, expression-read′, hash-read′, string-read′, none-begins′)

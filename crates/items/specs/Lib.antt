@@ -1,0 +1,4 @@
+pub mod Entry
+pub mod Items
+pub mod Internal
+pub mod Claims

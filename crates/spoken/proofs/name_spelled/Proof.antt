@@ -1,0 +1,26 @@
+use mathlib.Core.Logic.{⊎-elim}
+use Rattle.spoken.proofs.Names.{reached-short′, reached-long′, name-laws}
+use Rattle.spoken.proofs.name_spelled.Statement.{statement}
+use Rattle.spoken.proofs.name_spelled.Tie as tie
+
+pub name-spelled-spec : {M : Type 1} → statement M
+name-spelled-spec =
+    tie.close
+    (tie.spec
+    (λ c κs. search name-laws)
+    (λ c. search name-laws)
+    (λ c κs. search name-laws)
+    (λ c κs. search name-laws)
+    (λ c. search name-laws)
+    (λ c κs. search name-laws)
+    (λ c. search name-laws)
+    (λ c κs. search name-laws)
+    (λ c. search name-laws)
+    (λ c κs. search name-laws)
+    (λ c. search name-laws)
+    (λ c κs. search name-laws)
+    (λ c κs. ⊎-elim
+    (λ w. search (reached-long′, w))
+    (λ w. search (reached-short′, w))
+    (c .if1 .came))
+    (λ c. search name-laws))

@@ -1,0 +1,3 @@
+pub mod Spoken
+pub mod Internal
+pub mod Claims

@@ -6,12 +6,10 @@ use mathlib.Core.Bool.{Bool, true, false, not}
 use native.Mathlib.Omega.{arith}
 use lib.Dec.{ltb}
 use lib.ListN.{length, getD}
-use mir.Syntax.{w64}
-use mir.Val.{Fits}
 use borrow.Author.Needs.{needs}
 use borrow.Author.Tests.{not-true, not-false, ltb-true, le-leb, lt-leb, le-ltb, lt-ltb}
 use Rattle.kind.proofs.Tests.{clash}
-use Rattle.util.specs.Decides.{Decides, holds, fails}
+use Rattle.util.specs.Decides.{Decides, fails}
 use Rattle.util.proofs.Decided.{by-both}
 use Rattle.node.specs.Word.{isBranch, firstChild, childCount}
 use Rattle.node.specs.Tree.{branch, Child}

@@ -20,6 +20,6 @@ blockOf w = block (firstChild w) (firstChild w + childCount w)
 unfoldable pub childrenOf : List ℕ → ℕ → Block
 childrenOf t b = cond (branch t b && (ltb b (first t b) && leb (first t b + count t b) (length t))) (blockOf (getD t b 0)) (block 0 0)
 
--- the child after a child of the table
+-- the child after a child: the index after a node of the table; an index outside the table stays
 unfoldable pub nextChild : List ℕ → ℕ → ℕ
 nextChild t k = cond (ltb k (length t)) (k + 1) k

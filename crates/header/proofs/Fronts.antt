@@ -35,10 +35,9 @@ use Rattle.ahead.specs.declared.Ahead.{Ahead}
 use Rattle.ahead.specs.declared.Ahead.the-variants as ahead
 use Rattle.ahead.specs.declared.Seen.{Seen}
 use Rattle.spoken.specs.Spoken.{letterAt}
-use Rattle.header.specs.Turn as turn
-use Rattle.header.specs.Header.{undefined, behindQuery, queryAnswer, atLeaf, leafAnswer, atBranch, turnOf, Reads, leaf, isCommon, keeping, Begins, no-branch, first-refused, no-header, no-question, from-root, common, from-branch}
+use Rattle.header.specs.Header.{undefined, behindQuery, queryAnswer, atLeaf, leafAnswer, atBranch, turnOf, Reads, leaf, keeping, Begins, no-branch, first-refused, no-header, no-question, from-root, common, from-branch}
 use Rattle.header.specs.Header as headers
-use Rattle.header.specs.Internal.{aheadAt, begins, goesOn, frontOf, keptBy, refusedBy, bare, Settles, Arrives, arrives, strays, RootLeaf, root-leaf, root-branch, Empty, found, not-found, Otherwise}
+use Rattle.header.specs.Internal.{aheadAt, begins, goesOn, frontOf, keptBy, refusedBy, bare, Arrives, arrives, strays, RootLeaf, root-leaf, root-branch, Empty, found, not-found, Otherwise}
 use Rattle.header.specs.declared.Front.{Front}
 use Rattle.header.specs.declared.Front.the-variants as front
 use Rattle.header.specs.declared.Header.{Header}

@@ -3,11 +3,10 @@ use Prim.Native.Nat.{ℕ, _+_, _-_, _≤_, _<_}
 use mathlib.Core.Path.{_≡_, refl, sym, ap, subst, _∙_}
 use mathlib.Core.Logic.{_⊎_, inl, inr, ⊎-elim}
 use mathlib.Core.List.{List}
-use mathlib.Core.Bool.{Bool, true, false, not, cond, _&&_, _||_, false≢true}
-use native.Mathlib.Omega.{arith}
+use mathlib.Core.Bool.{Bool, true, false, not, _&&_, _||_}
 use lib.Dec.{eqb, leb, ltb}
 use lib.ListN.{length, getD}
-use borrow.Author.Tests.{eqb-true, le-leb, lt-leb, leb-true, not-true}
+use borrow.Author.Tests.{eqb-true, le-leb, lt-leb, not-true}
 use Rattle.kind.specs.Class.{isWhiteSpace, isLetter, inMnemonic}
 use Rattle.kind.specs.Kind.{kindOf, newline, blank, star, colon, question, semicolon, comma, hash, quote, parenthesis, other, beyond, underscore, small, capital}
 use Rattle.kind.proofs.Tests.{by-test, clash, either, or-left, or-right, and-left, and-right, less-or-not}
@@ -27,7 +26,6 @@ use Rattle.ahead.specs.Seen.{aheadOf, seenWith, seenAt}
 use Rattle.ahead.specs.declared.Stop.the-variants as stop
 use Rattle.ahead.specs.declared.Ahead.{Ahead}
 use Rattle.ahead.specs.declared.Ahead.the-variants as ahead
-use Rattle.ahead.specs.declared.Seen.{Seen}
 use Rattle.spoken.specs.Spoken.{letterAt}
 use Rattle.header.specs.Internal.{aheadAt, goesOn}
 use Rattle.header.proofs.Looks.{end-seen′}

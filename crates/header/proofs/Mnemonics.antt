@@ -1,8 +1,8 @@
 -- What a mnemonic that begins at a place of a header is to the header.
-use Prim.Native.Nat.{ℕ, _+_, _-_, _≤_, _<_}
-use mathlib.Core.Path.{_≡_, refl, sym, ap, subst, _∙_}
+use Prim.Native.Nat.{ℕ, _+_, _-_}
+use mathlib.Core.Path.{_≡_, refl, sym, ap, _∙_}
 use mathlib.Core.List.{List}
-use mathlib.Core.Bool.{Bool, true, false, not, cond, _&&_, _||_, false≢true}
+use mathlib.Core.Bool.{Bool, true, false, cond, _&&_, false≢true}
 use lib.Dec.{leb}
 use lib.ListN.{length, getD}
 use Rattle.error.specs.declared.ErrorCode.{ErrorCode}
@@ -11,7 +11,6 @@ use Rattle.kind.specs.Class.{isLetter, inMnemonic}
 use Rattle.kind.proofs.Tests.{and-left, and-right, or-right}
 use Rattle.util.specs.Run.{runEnd, standsAt}
 use Rattle.token.specs.View.{viewOf}
-use Rattle.token.specs.Token.{viewIn}
 use Rattle.token.specs.declared.Token.{Token}
 use Rattle.token.specs.declared.Token.the-variants.{ProgramMnemonic, HeaderMnemonicSeparator}
 use Rattle.item.specs.Follow.{token, refused}

@@ -2,17 +2,16 @@
 use Prim.Native.Nat.{ℕ, _+_, _≤_, _<_}
 use mathlib.Core.Path.{_≡_, refl, sym, ap, _∙_}
 use mathlib.Core.List.{List}
-use mathlib.Core.Bool.{Bool, true, false, cond, not, _||_, false≢true}
+use mathlib.Core.Bool.{Bool, true, false, cond, false≢true}
 use lib.Dec.{eqb, leb, ltb}
 use lib.ListN.{length, getD}
 use borrow.Author.Needs.{needs}
 use borrow.Author.Tests.{le-leb, lt-leb, leb-false, lt-ltb, le-ltb, eq-eqb, ne-eqb, ltb-true, eqb-true}
 use Rattle.kind.specs.Class.{isLetter}
-use Rattle.kind.proofs.Tests.{and-left, and-right, or-left}
+use Rattle.kind.proofs.Tests.{and-left, and-right}
 use Rattle.util.specs.Run.{standsAt}
 use Rattle.spoken.specs.Spoken.{letterAt}
-use Rattle.header.specs.Internal.{afterByte, goesOn, halts, endsAt, frontOf, keptBy, bare}
-use Rattle.header.specs.declared.Front.{Front}
+use Rattle.header.specs.Internal.{afterByte, goesOn, halts, endsAt, frontOf, keptBy}
 use Rattle.header.specs.declared.Front.the-variants as front
 
 module _ (s : List ℕ) (at : ℕ) (b : ℕ) where

@@ -1,5 +1,5 @@
 -- Laws of the leaf that is reached unsaid, as the code meets them; and what it is to a header.
-use Prim.Native.Nat.{ℕ, _-_, _≤_, _<_}
+use Prim.Native.Nat.{ℕ, _-_, _<_}
 use mathlib.Core.Path.{_≡_, refl, sym, subst, _∙_}
 use mathlib.Core.Logic.{_⊎_, inl, inr}
 use mathlib.Core.List.{List}
@@ -21,7 +21,6 @@ use Rattle.ahead.specs.declared.Seen.{Seen}
 use Rattle.header.specs.Turn as turn
 use Rattle.header.specs.Header.{undefined, leafAnswer, turnOf, Reads, leaf, ended, nowhere}
 use Rattle.header.specs.Internal.{Settles, at-leaf, onward, unsettled, RootLeaf, root-leaf, root-branch, Empty, found, not-found}
-use Rattle.header.specs.declared.Header.{Header}
 use Rattle.header.specs.declared.Header.the-variants as header
 
 -- a pick among the children of a branch

@@ -1,5 +1,5 @@
 -- Laws of the walk down the tree, as the code meets them.
-use Prim.Native.Nat.{ℕ, _+_, _-_, _≤_, _<_}
+use Prim.Native.Nat.{ℕ, _+_, _-_, _<_}
 use mathlib.Core.Path.{_≡_, refl, sym, ap, subst, _∙_}
 use mathlib.Core.Logic.{_⊎_, inl, inr}
 use mathlib.Core.List.{List}
@@ -12,7 +12,7 @@ use borrow.Author.Tests.{not-true, not-false, leb-false, ltb-true, lt-ltb}
 use Rattle.error.specs.declared.ErrorCode.{ErrorCode}
 use Rattle.error.specs.declared.ErrorCode.the-variants as refusal
 use Rattle.kind.specs.Class.{isLetter, isDigit, is, inMnemonic}
-use Rattle.kind.proofs.Tests.{clash, and-left, and-right, or-left, less-or-not}
+use Rattle.kind.proofs.Tests.{clash, and-left, and-right, or-left}
 use Rattle.util.specs.Run.{runEnd, standsAt}
 use Rattle.util.proofs.Runs.{run-again, run-more, run-from}
 use Rattle.mnemonic.specs.Mnemonic.{matches}
@@ -23,9 +23,8 @@ use Rattle.branch.specs.Block.{childrenOf}
 use Rattle.branch.specs.declared.Block.{Block}
 use Rattle.branch.specs.declared.Pick.{Pick}
 use Rattle.branch.specs.declared.Pick.the-variants as pick
-use Rattle.branch.proofs.Picks.{picks-children, deeper}
+use Rattle.branch.proofs.Picks.{deeper}
 use Rattle.token.specs.View.{partOf, viewOf}
-use Rattle.token.specs.declared.View.{View}
 use Rattle.token.specs.declared.Token.{Token}
 use Rattle.token.specs.declared.Token.the-variants.{ProgramMnemonic}
 use Rattle.item.specs.Follow.{token, refused}
@@ -34,8 +33,7 @@ use Rattle.item.proofs.Progress.{header-behind, common-behind}
 use Rattle.item.specs.declared.Read.{Read}
 use Rattle.item.specs.declared.Read.the-variants as read
 use Rattle.tokenizer.specs.Step.{stateOf}
-use Rattle.tokenizer.specs.declared.State.{State}
-use Rattle.ahead.specs.Seen.{seenWith, seenAt}
+use Rattle.ahead.specs.Seen.{seenWith}
 use Rattle.ahead.specs.declared.Ahead.{Ahead}
 use Rattle.ahead.specs.declared.Ahead.the-variants as ahead
 use Rattle.ahead.specs.declared.Seen.{Seen}

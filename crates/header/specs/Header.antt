@@ -53,7 +53,8 @@ atLeaf s leaf h st ahead.Colon = undefined
 unfoldable pub leafAnswer : List ℕ → ℕ → ℕ → Seen → Header
 leafAnswer s leaf h seen = atLeaf s leaf h (seen .state) (seen .ahead)
 
--- IEEE 488.2 7.6.1: after a colon a mnemonic follows, or the header is -110. The token step lets only a mnemonic, or the end of the text, follow.
+-- IEEE 488.2 7.6.1: after a colon a mnemonic follows, or the header is -110. The token step lets only a mnemonic, or the end of the text,
+-- follow; a mnemonic that is too long stays -112.
 abbrev pub wordBehind : State → Ahead → Turn
 wordBehind st (ahead.Word w) = turn.Word w st
 wordBehind st (ahead.Refused e) = turn.Refused e
@@ -113,7 +114,7 @@ keeping b (header.Refused e) = header.Refused e
 pub data Begins (t names s : List ℕ) (b : ℕ) (seen : Seen) : Header → Type 0 where
   no-branch : branch t b ≡ false → Begins t names s b seen (header.Refused refusal.StartIsNoBranch)
   first-refused : {e : ErrorCode} → branch t b ≡ true → seen .ahead ≡ ahead.Refused e → Begins t names s b seen (header.Refused e)
-  -- IEEE 488.2 7.6: a header begins with a mnemonic or a colon; a text that ends at once has none
+  -- IEEE 488.2 7.6: a header begins with a mnemonic or a colon; white space, `;` or the end of the text begins none
   no-header : {x : Stop} → branch t b ≡ true → seen .ahead ≡ ahead.Stop x → Begins t names s b seen (header.Refused refusal.SyntaxError)
   no-question : branch t b ≡ true → seen .ahead ≡ ahead.Query → Begins t names s b seen (header.Refused refusal.SyntaxError)
   -- SCPI-99 6.2.4: a leading colon starts at the root. Alone at the end of the text it resolves an empty header there.

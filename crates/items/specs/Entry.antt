@@ -24,8 +24,8 @@ pub record Met : Type 0 where
   pub state : State
 
 -- What a token is among the data. An item is program data of any form of IEEE 488.2 7.7, a number with a suffix or without; a unit
--- separator (7.4.1) ends the data. What belongs to a header has no place there. After the header separator the token step refuses it with a
--- number of its own, but for a mnemonic with a star, which is -102 here.
+-- separator (7.4.1) ends the data. What belongs to a header has no place there. After the header separator
+-- the token step itself refuses `:` and `?`, and has passed all white space; a mnemonic comes out of it only with a star, and is -102 here.
 abbrev pub tokenEntry : Token → Entry
 tokenEntry (CharacterProgramData v) = Item
 tokenEntry (DecimalNumericProgramData v) = Item

@@ -1,5 +1,6 @@
 -- A program message: message units with `;` between them, IEEE 488.2 7.3 and 7.4.1, up to the end of the text; and its records. The token
--- step takes a newline that is the last byte for the terminator (7.5), and another one for white space or a fault.
+-- step takes a newline that is the last byte for the terminator (7.5), and another one, outside an item of data, for white space or a
+-- fault.
 use Prim.Native.Nat.{ℕ, _≤_, _<_}
 use mathlib.Core.Path.{_≡_}
 use mathlib.Core.List.{List, [], _∷_, map}
@@ -30,7 +31,7 @@ use Rattle.message.specs.declared.Walked.the-variants as walked
 abbrev pub beginningAt : List ℕ → ℕ → Seen
 beginningAt s p = seenAt s (stateOf p true false)
 
--- the end of the text is where a unit would begin
+-- what is where a unit would begin is the end of the text, and not white space or `;`
 abbrev pub isText : Stop → Bool
 isText stop.Text = true
 isText stop.Unit = false

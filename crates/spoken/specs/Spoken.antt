@@ -27,7 +27,8 @@ abbrev pub spelledAs : List ℕ → List ℕ → ℕ → Read → Spelled
 spelledAs name s at (read.Token t next) = cond (ltb at next && matches name (partOf s (viewOf at next))) (spelled.To next) spelled.Not
 spelledAs name s at (read.Refused e) = spelled.Not
 
--- whether the mnemonic at a place spells the name
+-- Whether the mnemonic at a place spells the name. What begins with a digit or an underscore counts as one here; the token step lets no header
+-- come to it.
 unfoldable pub spelledAt : List ℕ → List ℕ → ℕ → Spelled
 spelledAt name s at = spelledAs name s at (mnemonic s at)
 

@@ -30,7 +30,7 @@ abbrev pub closing : Header → Resolved
 closing (header.Found c query kept x p) = aloneWith c query kept x
 closing (header.Refused e) = resolved.Refused e
 
--- the bytes that a message may have
+-- the most bytes that a message may have
 abbrev pub longestMessage : ℕ
 longestMessage = 65535
 

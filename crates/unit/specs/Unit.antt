@@ -17,7 +17,8 @@ use Rattle.unit.specs.declared.Unit.{Unit}
 use Rattle.unit.specs.declared.Unit.the-variants as unit
 
 -- Behind s x p r: the data after a header that x ended before the place p. IEEE 488.2 7.4.3: data follow white space; a header that `;` or the
--- end of the text ends has none. A star before them changes nothing about data, so that they are read as after any header.
+-- end of the text ends has none. Whether the header began with a star makes no
+-- difference to its data (`star-apart` of items), so that they are read with in-common false.
 pub data Behind (s : List ℕ) : Stop → ℕ → Data → Type 0 where
   separated : {p : ℕ} {r : Data} → Items s (stateOf p false false) r → Behind s stop.Separator p r
   at-unit : {p : ℕ} → Behind s stop.Unit p (found.Items 0 p)

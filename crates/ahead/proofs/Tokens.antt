@@ -4,10 +4,7 @@ use mathlib.Core.Path.{_≡_, sym, ap, _∙_}
 use mathlib.Core.List.{List}
 use borrow.Author.Needs.{needs}
 use Rattle.token.specs.declared.Token.{Token}
-use Rattle.tokenizer.specs.Step.{step}
-use Rattle.tokenizer.specs.declared.Answer.{Answer}
-use Rattle.tokenizer.specs.declared.State.{State}
-use Rattle.tokenizer.specs.declared.Step.{Step}
+use Rattle.tokenizer.specs.{Step.step, declared.Answer.Answer, declared.State.State, declared.Step.Step}
 use Rattle.ahead.specs.Seen.{tokenAhead, aheadOf, seenWith, seenAt}
 use Rattle.ahead.specs.declared.Ahead.{Ahead}
 

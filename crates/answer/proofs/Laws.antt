@@ -6,9 +6,7 @@ use native.Mathlib.Nat.{le-trans}
 use lib.ListN.{length, take}
 use borrow.Author.Needs.{needs}
 use Rattle.mnemonic.proofs.Compare.{part-long′}
-use Rattle.request.specs.Unhex.{unhexed}
-use Rattle.request.specs.declared.Text.{Text}
-use Rattle.request.specs.declared.Text.the-variants.{Until}
+use Rattle.request.specs.{Unhex.unhexed, declared.Text.Text, declared.Text.the-variants.Until}
 use Rattle.request.proofs.Claims.{claims}
 
 -- the length of a front before a part that follows it

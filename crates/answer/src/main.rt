@@ -227,7 +227,7 @@ fn name_answer(text: &[u8], n: usize, m: usize) -> [u8; 18]
 {
     let name = &text[..n];
     let word = &text[n..m];
-    report_names::names(
+    report::names(
         mnemonic::mnemonic_match(name, word),
         mnemonic::mnemonic_compare(name, word),
     )

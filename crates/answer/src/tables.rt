@@ -11,9 +11,9 @@ use crate::lists::put_refused;
 use crate::put;
 use crate::refuse;
 use crate::take_text;
+use request::Number;
 use request::Text;
-use request_table::Number;
-use request_table::Words;
+use request::Words;
 use table::Checked;
 use tree::Resolved;
 
@@ -215,7 +215,7 @@ struct TakenNumber {
 fn take_number(line: &[u8], at: usize) -> TakenNumber {
     let part = request::field(line, at);
     let next = part.end;
-    let Number::Value(value) = request_table::read_number(line, part.start, next) else {
+    let Number::Value(value) = request::read_number(line, part.start, next) else {
         return TakenNumber {
             ok: false,
             next,
@@ -245,14 +245,14 @@ fn take_table(line: &[u8], at: usize, words: &mut [u64], text: &mut [u8]) -> Tak
 {
     let part = request::field(line, at);
     let next = part.end;
-    let slash = request_table::slash(line, part.start, next);
+    let slash = request::slash(line, part.start, next);
     if next <= slash {
         return no_table();
     }
     if slash + 1 == next {
         return no_table();
     }
-    let Words::Count(count) = request_table::read_words(line, part.start, slash, words) else {
+    let Words::Count(count) = request::read_words(line, part.start, slash, words) else {
         return no_table();
     };
     let Text::Until(names) = request::unhex(line, slash + 1, next, text, 0) else {

@@ -8,10 +8,9 @@ use native.Mathlib.Omega.{arith}
 use Rattle.kind.proofs.Tests.{clash, less-or-not}
 use Rattle.branch.specs.Children.{Picks, first-one, not-one, PicksIn, first-in, none-in}
 use Rattle.branch.specs.declared.Pick.{Pick}
-use Rattle.branch.specs.declared.Pick.the-variants as pick
 
 module _ {t : List ℕ} {b : ℕ} {q : ℕ → Bool} where
-  pub one-child : {k j : ℕ} → Picks t b q (pick.Child k) → Picks t b q (pick.Child j) → k ≡ j
+  pub one-child : {k j : ℕ} → Picks t b q (Pick.Child k) → Picks t b q (Pick.Child j) → k ≡ j
   one-child {k} {j} (first-one x e f) (first-one y g h) = go (less-or-not k j) (less-or-not j k)
     where
       go : (k < j) ⊎ (j ≤ k) → (j < k) ⊎ (k ≤ j) → k ≡ j
@@ -19,23 +18,23 @@ module _ {t : List ℕ} {b : ℕ} {q : ℕ → Bool} where
       go (inr l) (inl m) = clash g (f j y m)
       go (inr l) (inr m) = omega arith
 
-  pub no-child : {A : Type 0} {k : ℕ} → Picks t b q (pick.Child k) → Picks t b q pick.None → A
+  pub no-child : {A : Type 0} {k : ℕ} → Picks t b q (Pick.Child k) → Picks t b q Pick.None → A
   no-child {k = k} (first-one x e f) (not-one g) = clash e (g k x)
 
   pub one-pick : (x y : Pick) → Picks t b q x → Picks t b q y → x ≡ y
-  one-pick (pick.Child k) (pick.Child j) x y = ap pick.Child (one-child x y)
-  one-pick (pick.Child k) pick.None x y = no-child x y
-  one-pick pick.None (pick.Child j) x y = no-child y x
-  one-pick pick.None pick.None x y = refl
+  one-pick (Pick.Child k) (Pick.Child j) x y = ap Pick.Child (one-child x y)
+  one-pick (Pick.Child k) Pick.None x y = no-child x y
+  one-pick Pick.None (Pick.Child j) x y = no-child y x
+  one-pick Pick.None Pick.None x y = refl
 
 module _ {p : ℕ → Bool} {from to : ℕ} where
   pub one-pick-in : (x y : Pick) → PicksIn p from to x → PicksIn p from to y → x ≡ y
-  one-pick-in (pick.Child k) (pick.Child j) (first-in l u e f) (first-in m v g h) = ap pick.Child (go (less-or-not k j) (less-or-not j k))
+  one-pick-in (Pick.Child k) (Pick.Child j) (first-in l u e f) (first-in m v g h) = ap Pick.Child (go (less-or-not k j) (less-or-not j k))
     where
       go : (k < j) ⊎ (j ≤ k) → (j < k) ⊎ (k ≤ j) → k ≡ j
       go (inl z) y = clash e (h k l z)
       go (inr z) (inl y) = clash g (f j m y)
       go (inr z) (inr y) = omega arith
-  one-pick-in (pick.Child k) pick.None (first-in l u e f) (none-in g) = clash e (g k l u)
-  one-pick-in pick.None (pick.Child k) (none-in g) (first-in l u e f) = clash e (g k l u)
-  one-pick-in pick.None pick.None x y = refl
+  one-pick-in (Pick.Child k) Pick.None (first-in l u e f) (none-in g) = clash e (g k l u)
+  one-pick-in Pick.None (Pick.Child k) (none-in g) (first-in l u e f) = clash e (g k l u)
+  one-pick-in Pick.None Pick.None x y = refl

@@ -18,7 +18,6 @@ use Rattle.node.specs.Tree.{branch, first, count}
 use Rattle.branch.specs.Children.{Below, unsaidIn, Picks, first-one, not-one, PicksIn, first-in, none-in}
 use Rattle.branch.specs.Block.{block, blockOf, childrenOf, nextChild}
 use Rattle.branch.specs.declared.Pick.{Pick}
-use Rattle.branch.specs.declared.Pick.the-variants as pick
 use Rattle.branch.proofs.Blocks.{next-in′}
 
 -- the nodes from one index up to another, and not the one there, are the children of b
@@ -73,7 +72,7 @@ module _ (t : List ℕ) (from to e : ℕ) where
     default-less′ l i n = omega (arith, n, next-in′ t k (default-inside′ l))
 
     module _ (inv : Passed (unsaidIn t) from k) where
-      pub default-over′ : e ≤ k → PicksIn (unsaidIn t) from to pick.None
+      pub default-over′ : e ≤ k → PicksIn (unsaidIn t) from to Pick.None
       default-over′ l = none-in (λ j low high. go j (less-or-not j k) (not-least to (length t) k (omega (arith, h))) low high)
         where
           go : (j : ℕ) → (j < k) ⊎ (k ≤ j) → (to ≤ k) ⊎ (length t ≤ k) → from ≤ j → j < to → unsaidIn t j ≡ false
@@ -82,7 +81,7 @@ module _ (t : List ℕ) (from to e : ℕ) where
           go j (inr x) (inr y) low high = not-past t j (omega arith)
 
       module _ (l : k < e) (r : Bool) (q : r ≡ isDefault (getD t k 0)) where
-        pub default-found′ : r ≡ true → PicksIn (unsaidIn t) from to (pick.Child k)
+        pub default-found′ : r ≡ true → PicksIn (unsaidIn t) from to (Pick.Child k)
         unfolding unsaidIn
         default-found′ y = first-in (inv .low) (omega (arith, h, least-le to (length t) .0)) (sym q ∙ y) (inv .all)
 
@@ -96,17 +95,17 @@ pub ruleset default-laws = (needs, default-begins′, default-inside′, default
 -- a pick of a block is one of the branch whose children the block has
 module _ (t : List ℕ) (b from to : ℕ) (c : Covers t b from to) (p : ℕ → Bool) where
   pub picks-covered : (x : Pick) → PicksIn p from to x → Picks t b p x
-  picks-covered (pick.Child k) (first-in low high e f) = first-one (c .only k low high) e (λ j x l. f j (c .all j x .0) l)
-  picks-covered pick.None (none-in f) = not-one (λ j x. f j (c .all j x .0) (c .all j x .1))
+  picks-covered (Pick.Child k) (first-in low high e f) = first-one (c .only k low high) e (λ j x l. f j (c .all j x .0) l)
+  picks-covered Pick.None (none-in f) = not-one (λ j x. f j (c .all j x .0) (c .all j x .1))
 
 pub picks-children : (t : List ℕ) (b : ℕ) (p : ℕ → Bool) (x : Pick) → PicksIn p (childrenOf t b .from) (childrenOf t b .to) x → Picks t b p x
 picks-children t b p = picks-covered t b (childrenOf t b .from) (childrenOf t b .to) (covers t b) p
 
 -- what was picked is a child, in the table and nearer to its end than its branch
-pub picked : {t : List ℕ} {b k : ℕ} {q : ℕ → Bool} → Picks t b q (pick.Child k) → Below t b k
+pub picked : {t : List ℕ} {b k : ℕ} {q : ℕ → Bool} → Picks t b q (Pick.Child k) → Below t b k
 picked (first-one x e f) = x
 
-pub deeper : {t : List ℕ} {b k : ℕ} {q : ℕ → Bool} → Picks t b q (pick.Child k) → (k < length t) × (length t - k < length t - b)
+pub deeper : {t : List ℕ} {b k : ℕ} {q : ℕ → Bool} → Picks t b q (Pick.Child k) → (k < length t) × (length t - k < length t - b)
 deeper x =
     let y = picked x in
     let l = below-in y in

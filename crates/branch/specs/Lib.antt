@@ -1,3 +1,2 @@
 pub mod Children
 pub mod Block
-pub mod Claims

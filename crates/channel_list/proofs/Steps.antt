@@ -16,24 +16,15 @@ use Rattle.error.specs.declared.ErrorCode.the-variants.{InvalidCharacter, Inval
 use Rattle.kind.specs.Class.{isDigit, isSign, isQuote}
 use Rattle.kind.proofs.Tests.{or-right}
 use Rattle.util.specs.Run.{standsAt}
-use Rattle.token.specs.Token.{viewIn}
-use Rattle.token.specs.View.{viewOf}
-use Rattle.token.specs.declared.View.{View}
-use Rattle.token.specs.declared.Token.{Token}
-use Rattle.token.specs.declared.Token.the-variants.{StringProgramData}
+use Rattle.token.specs.{Token.viewIn, View.viewOf, declared.View.View, declared.Token.Token, declared.Token.the-variants.StringProgramData}
 use Rattle.item.specs.declared.Read.{Read}
-use Rattle.item.specs.declared.Read.the-variants as read
-use Rattle.item.proofs.Accepted.{only-then, only-else, only-followed}
+use Rattle.forms.proofs.ItemAccepted.{only-then, only-else, only-followed}
 use Rattle.enclosed.specs.String.{stringEnd, closed, stringData}
-use Rattle.channel_spec.specs.Spec.{specAt, isEmpty}
-use Rattle.channel_spec.specs.declared.ChannelSpec.{ChannelSpec}
+use Rattle.channel_spec.specs.{Spec.specAt, Spec.isEmpty, declared.ChannelSpec.ChannelSpec}
 use Rattle.channel_list.specs.List.{stateOf, opened, taken, refusal, ended, beginsSpec, rangeOf, rangeTo, specsFrom, specsAt, pathOf, pathAt, itemAt, commaBefore, step, stepAt, Inside}
-use Rattle.channel_list.specs.declared.State.{State}
+use Rattle.channel_list.specs.{declared.State.State, declared.Step.Step, declared.Front.Front}
 use Rattle.channel_list.specs.declared.Token.the-variants as item
 use Rattle.channel_list.specs.declared.Answer.the-variants as answer
-use Rattle.channel_list.specs.declared.Step.{Step}
-use Rattle.channel_list.specs.declared.Front.{Front}
-use Rattle.channel_list.specs.declared.Front.the-variants as front
 use Rattle.channel_list.specs.declared.Opened.the-variants as opens
 use Rattle.channel_list.specs.declared.Token as items
 
@@ -99,7 +90,7 @@ module _ (s : List ℕ) (st : State) (at : ℕ) (x : Step) where
 pub ruleset ranges = (needs, range-empty′, range-unequal′, range′, spec-last′, spec-alone′, spec-colon′)
 
 -- a string that was read ends before a quote, inside the text
-module _ (q : ℕ) (s : List ℕ) (at : ℕ) (t : Token) (next : ℕ) (e : stringData q s at ≡ read.Token t next) where
+module _ (q : ℕ) (s : List ℕ) (at : ℕ) (t : Token) (next : ℕ) (e : stringData q s at ≡ Read.Token t next) where
   abbrev end : ℕ
   end = stringEnd q s at
 
@@ -111,11 +102,11 @@ module _ (q : ℕ) (s : List ℕ) (at : ℕ) (t : Token) (next : ℕ) (e : strin
       (sym (only-followed t next (StringProgramData (viewOf at end)) SuffixNotAllowed s (end + 1) (d .1)), leb-false (length s) end (c .0))
 
 module _ (q : ℕ) (s : List ℕ) (st : State) (at : ℕ) (r : Read) (er : r ≡ stringData q s at) where
-  pub path-refused′ : (e : ErrorCode) → r ≡ read.Refused e → (x : Step) → x ≡ refusal s st e → x ≡ pathAt q s st at
+  pub path-refused′ : (e : ErrorCode) → r ≡ Read.Refused e → (x : Step) → x ≡ refusal s st e → x ≡ pathAt q s st at
   unfolding pathAt pathOf
   path-refused′ e k x ex = ex ∙ rw (← er, k)
 
-  module _ (t : Token) (next : ℕ) (k : r ≡ read.Token t next) (v : View) (ev : v ≡ viewIn t) where
+  module _ (t : Token) (next : ℕ) (k : r ≡ Read.Token t next) (v : View) (ev : v ≡ viewIn t) where
     shown : v ≡ viewOf at (stringEnd q s at)
     shown = ev ∙ ap viewIn (string-token q s at t next (sym er ∙ k) .0)
 
@@ -154,34 +145,34 @@ pub ruleset arms = (needs, item-spec′, item-quote′, item-other′)
 
 -- Where the next item begins.
 module _ (s : List ℕ) (st : State) (h : st .place < length s) where
-  pub front-here′ : (getD s (st .place) 0 ≡ 44 → ⊥) → stepAt s st (front.Item (st .place)) ≡ step s st
+  pub front-here′ : (getD s (st .place) 0 ≡ 44 → ⊥) → stepAt s st (Front.Item (st .place)) ≡ step s st
   unfolding step stepAt
   front-here′ n = rw (lt-leb (length s) (st .place) h, ne-eqb (getD s (st .place) 0) 44 n)
 
   module _ (e : getD s (st .place) 0 ≡ 44) where
-    pub front-first′ : st .first ≡ true → stepAt s st front.Refused ≡ step s st
+    pub front-first′ : st .first ≡ true → stepAt s st Front.Refused ≡ step s st
     unfolding step stepAt commaBefore
     front-first′ f = rw (lt-leb (length s) (st .place) h, eq-eqb (getD s (st .place) 0) 44 e, f)
 
     module _ (f : st .first ≡ false) where
-      pub front-last′ : length s ≤ st .place + 1 → stepAt s st (front.End (st .place + 1)) ≡ step s st
+      pub front-last′ : length s ≤ st .place + 1 → stepAt s st (Front.End (st .place + 1)) ≡ step s st
       unfolding step stepAt commaBefore
       front-last′ l = rw (lt-leb (length s) (st .place) h, eq-eqb (getD s (st .place) 0) 44 e, f, le-leb (length s) (st .place + 1) l)
 
-      pub front-behind′ : st .place + 1 < length s → stepAt s st (front.Item (st .place + 1)) ≡ step s st
+      pub front-behind′ : st .place + 1 < length s → stepAt s st (Front.Item (st .place + 1)) ≡ step s st
       unfolding step stepAt commaBefore
       front-behind′ l = rw (lt-leb (length s) (st .place) h, eq-eqb (getD s (st .place) 0) 44 e, f, lt-leb (length s) (st .place + 1) l)
 
 module _ (s : List ℕ) where
-  pub inside-item′ : (at : ℕ) → at < length s → Inside s (front.Item at)
+  pub inside-item′ : (at : ℕ) → at < length s → Inside s (Front.Item at)
   unfolding Inside
   inside-item′ at h = h
 
-  pub inside-end′ : (at : ℕ) → Inside s (front.End at)
+  pub inside-end′ : (at : ℕ) → Inside s (Front.End at)
   unfolding Inside
   inside-end′ at = tt
 
-  pub inside-refused′ : Inside s front.Refused
+  pub inside-refused′ : Inside s Front.Refused
   unfolding Inside
   inside-refused′ = tt
 
@@ -194,20 +185,20 @@ module _ (s : List ℕ) (st : State) where
 
   -- the step, by its front
   module _ (f : Front) where
-    pub item-inside′ : Inside s f → (at : ℕ) → f ≡ front.Item at → at < length s
+    pub item-inside′ : Inside s f → (at : ℕ) → f ≡ Front.Item at → at < length s
     unfolding Inside
     item-inside′ i at k = rw k at i
 
     module _ (e : stepAt s st f ≡ step s st) where
-      pub item′ : (at : ℕ) → f ≡ front.Item at → (x : Step) → x ≡ itemAt s st at → x ≡ step s st
+      pub item′ : (at : ℕ) → f ≡ Front.Item at → (x : Step) → x ≡ itemAt s st at → x ≡ step s st
       unfolding stepAt
       item′ at k x ex = ex ∙ rw k at e
 
-      pub last′ : (at : ℕ) → f ≡ front.End at → record { answer = answer.End; state = stateOf at (st .first) } ≡ step s st
+      pub last′ : (at : ℕ) → f ≡ Front.End at → record { answer = answer.End; state = stateOf at (st .first) } ≡ step s st
       unfolding stepAt ended
       last′ at k = rw k at e
 
-      pub refused′ : f ≡ front.Refused → (x : Step) → x ≡ refusal s st InvalidExpression → x ≡ step s st
+      pub refused′ : f ≡ Front.Refused → (x : Step) → x ≡ refusal s st InvalidExpression → x ≡ step s st
       unfolding stepAt
       refused′ k x ex = ex ∙ rw k at e
 

@@ -8,23 +8,21 @@ use borrow.Author.Needs.{needs}
 use borrow.Author.Tests.{le-leb, lt-leb, lt-ltb, eq-eqb, ne-eqb}
 use Rattle.error.specs.declared.ErrorCode.the-variants.{ExpressionError}
 use Rattle.util.specs.Run.{standsAt}
-use Rattle.number.specs.Number.{signedAt}
-use Rattle.number.specs.declared.Signed.{Signed}
-use Rattle.number.specs.declared.Signed.the-variants as signed
+use Rattle.number.specs.{Number.signedAt, declared.Signed.Signed}
 use Rattle.channel_spec.specs.Item.{refusal, bangEnd, itemBy, itemOf, itemAt}
 use Rattle.channel_spec.specs.declared.Item.the-variants as item
 use Rattle.channel_spec.specs.declared.Step.{Step}
 
 module _ (s : List ℕ) (at : ℕ) (r : Signed) (er : r ≡ signedAt s at) where
-  pub value′ : (v : ℤ) (end : ℕ) → r ≡ signed.Value v end → record { item = item.Value v; place = end } ≡ itemOf s at
+  pub value′ : (v : ℤ) (end : ℕ) → r ≡ Signed.Value v end → record { item = item.Value v; place = end } ≡ itemOf s at
   unfolding itemOf itemBy
   value′ v end q = rw (← er, q)
 
-  pub no-digit′ : r ≡ signed.NoDigit → (x : Step) → x ≡ refusal s → x ≡ itemOf s at
+  pub no-digit′ : r ≡ Signed.NoDigit → (x : Step) → x ≡ refusal s → x ≡ itemOf s at
   unfolding itemOf itemBy
   no-digit′ q x ex = ex ∙ rw (← er, q)
 
-  pub too-large′ : r ≡ signed.TooLarge → (x : Step) → x ≡ refusal s → x ≡ itemOf s at
+  pub too-large′ : r ≡ Signed.TooLarge → (x : Step) → x ≡ refusal s → x ≡ itemOf s at
   unfolding itemOf itemBy
   too-large′ q x ex = ex ∙ rw (← er, q)
 

@@ -17,7 +17,7 @@ use Rattle.kind.proofs.Tests.{by-test, less-or-not}
 use Rattle.util.specs.Run.{run, runEnd}
 use Rattle.util.proofs.Runs.{run-past, run-stop, run-more, run-from}
 use Rattle.token.specs.View.{viewOf, partOf}
-use Rattle.item.proofs.Accepted.{part-shown, run-most}
+use Rattle.forms.proofs.ItemAccepted.{part-shown, run-most}
 use Rattle.channel_spec.specs.Spec.{inSpec, bang, bangs, dimensionOf, specTo, specAt}
 
 -- what may stand in a spec

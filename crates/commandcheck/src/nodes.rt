@@ -1,6 +1,6 @@
 // The table of the program: the worked tree of `tree`, which is proved to be accepted.
 ghost use mathlib.Core.Path.{_≡_};
-ghost use Rattle.tree.specs.Worked as worked;
+ghost use Rattle.routes.specs.Worked as worked;
 
 // A node word has these two bits; from bit 58 on the length of its name, and from bit 42 the start; from bit 26 the first child of a
 // branch or the command of a leaf; from bit 10 the child count.

@@ -16,81 +16,71 @@ use Rattle.error.specs.declared.ErrorCode.{ErrorCode}
 use Rattle.error.specs.declared.ErrorCode.the-variants.{ExpressionError, InvalidExpression}
 use Rattle.kind.proofs.Tests.{and-left, and-right, less-or-not}
 use Rattle.util.specs.Run.{standsAt, every}
-use Rattle.number.specs.Number.{signedAt}
-use Rattle.number.specs.declared.Signed.{Signed}
-use Rattle.number.specs.declared.Signed.the-variants as signed
+use Rattle.number.specs.{Number.signedAt, declared.Signed.Signed}
 use Rattle.channel_spec.specs.Spec.{bang, bangs, dimensionOf}
 use Rattle.channel_spec.specs.Item.{refusal, bangEnd, itemBy, itemOf, itemAt}
 use Rattle.coordinate.specs.Coordinate.{integer, both, integers, written, pairOf, tripleOf, firstOf, coordinateOf}
 use Rattle.coordinate.specs.Reading.{lastOf, joinedBy, joinedAt, noCoordinate}
 use Rattle.channel_spec.specs.declared.Item.the-variants as item
-use Rattle.coordinate.specs.declared.Coordinate.{Coordinate}
-use Rattle.coordinate.specs.declared.Coordinate.the-variants as coordinate
-use Rattle.coordinate.specs.declared.Pair.{Pair}
-use Rattle.coordinate.specs.declared.Pair.the-variants as pair
-use Rattle.coordinate.specs.declared.Triple.{Triple}
-use Rattle.coordinate.specs.declared.Triple.the-variants as triple
-use Rattle.coordinate.specs.declared.Joined.{Joined}
-use Rattle.coordinate.specs.declared.Joined.the-variants as joined
+use Rattle.coordinate.specs.{declared.Coordinate.Coordinate, declared.Pair.Pair, declared.Triple.Triple, declared.Joined.Joined}
 use Rattle.coordinate.specs.declared.Last.{Last}
-use Rattle.coordinate.specs.declared.Last.the-variants as last
 use Rattle.coordinate.proofs.Integers.{Read, isValue, some-byte, integer-form}
 use Rattle.coordinate.proofs.Parts.{Front, front-of, plain, whole-plain, then-last, then-bang, then-other, then-none}
 
 -- coordinates behind another are one more at least
-two : (v : ℤ) (t : List ℕ) → last.Nothing ≡ lastOf (both (some v) (written t))
+two : (v : ℤ) (t : List ℕ) → Last.Nothing ≡ lastOf (both (some v) (written t))
 unfolding written integers both lastOf
 two v t = rw (f .split) (go (integer (f .first)) (integers (f .others)))
   where
     f : Front t
     f = front-of t
 
-    go : (o : Option ℤ) (m : Option (List ℤ)) → last.Nothing ≡ lastOf (both (some v) (both o m))
+    go : (o : Option ℤ) (m : Option (List ℤ)) → Last.Nothing ≡ lastOf (both (some v) (both o m))
     go none m = refl
     go (some w) none = refl
     go (some w) (some ws) = refl
 
 -- an integer that a `!` follows
 module _ (s : List ℕ) (at : ℕ) (r : Signed) (er : r ≡ signedAt s at) where
-  pub unjoined-none′ : r ≡ signed.NoDigit → joined.Nothing ≡ joinedAt s at
+  pub unjoined-none′ : r ≡ Signed.NoDigit → Joined.Nothing ≡ joinedAt s at
   unfolding joinedAt joinedBy
   unjoined-none′ q = rw (← er, q)
 
-  pub unjoined-large′ : r ≡ signed.TooLarge → joined.Nothing ≡ joinedAt s at
+  pub unjoined-large′ : r ≡ Signed.TooLarge → Joined.Nothing ≡ joinedAt s at
   unfolding joinedAt joinedBy
   unjoined-large′ q = rw (← er, q)
 
-  pub not-last-none′ : r ≡ signed.NoDigit → last.Nothing ≡ lastOf (written (drop at s))
+  pub not-last-none′ : r ≡ Signed.NoDigit → Last.Nothing ≡ lastOf (written (drop at s))
   unfolding lastOf
   not-last-none′ q = rw (then-none s at (rw (← er, q)))
 
-  pub not-last-large′ : r ≡ signed.TooLarge → last.Nothing ≡ lastOf (written (drop at s))
+  pub not-last-large′ : r ≡ Signed.TooLarge → Last.Nothing ≡ lastOf (written (drop at s))
   unfolding lastOf
   not-last-large′ q = rw (then-none s at (rw (← er, q)))
 
-  module _ (v : ℤ) (end : ℕ) (q : r ≡ signed.Value v end) where
-    pub unjoined-past′ : length s ≤ end → joined.Nothing ≡ joinedAt s at
+  module _ (v : ℤ) (end : ℕ) (q : r ≡ Signed.Value v end) where
+    pub unjoined-past′ : length s ≤ end → Joined.Nothing ≡ joinedAt s at
     unfolding joinedAt joinedBy standsAt
     unjoined-past′ h = rw (← er, q, le-ltb end (length s) h)
 
-    pub last′ : length s ≤ end → last.Value v ≡ lastOf (written (drop at s))
+    pub last′ : length s ≤ end → Last.Value v ≡ lastOf (written (drop at s))
     unfolding lastOf
     last′ h = rw (then-last s at v end (sym er ∙ q) h)
 
     module _ (h : end < length s) where
-      pub unjoined-other′ : (getD s end 0 ≡ 33 → ⊥) → joined.Nothing ≡ joinedAt s at
+      pub unjoined-other′ : (getD s end 0 ≡ 33 → ⊥) → Joined.Nothing ≡ joinedAt s at
       unfolding joinedAt joinedBy standsAt
       unjoined-other′ n = rw (← er, q, lt-ltb end (length s) h, ne-eqb (getD s end 0) 33 n)
 
-      pub joined′ : getD s end 0 ≡ 33 → joined.Value v (end + 1) ≡ joinedAt s at
+      pub joined′ : getD s end 0 ≡ 33 → Joined.Value v (end + 1) ≡ joinedAt s at
       unfolding joinedAt joinedBy standsAt
       joined′ e = rw (← er, q, lt-ltb end (length s) h, eq-eqb (getD s end 0) 33 e)
 
-      pub not-last′ : last.Nothing ≡ lastOf (written (drop at s))
+      pub not-last′ : Last.Nothing ≡ lastOf (written (drop at s))
       unfolding lastOf
       not-last′ = by-byte (eqb (getD s end 0) 33) refl
         where
-          by-byte : (c : Bool) → eqb (getD s end 0) 33 ≡ c → last.Nothing ≡ lastOf (written (drop at s))
+          by-byte : (c : Bool) → eqb (getD s end 0) 33 ≡ c → Last.Nothing ≡ lastOf (written (drop at s))
           by-byte true e = rw (then-bang s at v end (sym er ∙ q) h (eqb-true (getD s end 0) 33 e)) (two v (drop (end + 1) s))
           by-byte false e = rw (then-other s at v end (sym er ∙ q) h (eqb-false (getD s end 0) 33 e))
 
@@ -98,16 +88,16 @@ pub ruleset reads = (needs, unjoined-none′, unjoined-large′, unjoined-past�
 
 -- what a value that was joined tells of the coordinates from its place on
 abbrev joinedValue : ℤ → Joined → ℤ
-joinedValue w (joined.Value v next) = v
-joinedValue w joined.Nothing = w
+joinedValue w (Joined.Value v next) = v
+joinedValue w Joined.Nothing = w
 
 abbrev joinedNext : Joined → ℕ
-joinedNext (joined.Value v next) = next
-joinedNext joined.Nothing = 0
+joinedNext (Joined.Value v next) = next
+joinedNext Joined.Nothing = 0
 
 abbrev isJoined : Joined → Bool
-isJoined (joined.Value v next) = true
-isJoined joined.Nothing = false
+isJoined (Joined.Value v next) = true
+isJoined Joined.Nothing = false
 
 module _ (s : List ℕ) (i : ℕ) where
   bang-inside : standsAt 33 s i ≡ true → i < length s
@@ -124,32 +114,32 @@ module _ (s : List ℕ) (i : ℕ) where
 
 -- fewer than two coordinates, or none
 abbrev Few : Option (List ℤ) → Type 0
-Few m = (pair.Refused ExpressionError ≡ pairOf m) × (triple.Refused ExpressionError ≡ tripleOf m)
+Few m = (Pair.Refused ExpressionError ≡ pairOf m) × (Triple.Refused ExpressionError ≡ tripleOf m)
 
 module _ (s : List ℕ) (at : ℕ) where
-  joined-written : (v : ℤ) (next : ℕ) → joinedAt s at ≡ joined.Value v next → written (drop at s) ≡ both (some v) (written (drop next s))
+  joined-written : (v : ℤ) (next : ℕ) → joinedAt s at ≡ Joined.Value v next → written (drop at s) ≡ both (some v) (written (drop next s))
   unfolding joinedAt joinedBy
   joined-written v next = go (signedAt s at) refl
     where
-      by-bang : (w : ℤ) (end : ℕ) → signedAt s at ≡ signed.Value w end → (c : Bool) → standsAt 33 s end ≡ c
-          → cond c (joined.Value w (end + 1)) joined.Nothing ≡ joined.Value v next → written (drop at s) ≡ both (some v) (written (drop next s))
+      by-bang : (w : ℤ) (end : ℕ) → signedAt s at ≡ Signed.Value w end → (c : Bool) → standsAt 33 s end ≡ c
+          → cond c (Joined.Value w (end + 1)) Joined.Nothing ≡ Joined.Value v next → written (drop at s) ≡ both (some v) (written (drop next s))
       by-bang w end e true k q =
           let x : w ≡ v = ap (joinedValue w) q in
           let y : end + 1 ≡ next = ap joinedNext q in
           rw (← x, ← y) (then-bang s at w end e (bang-inside s end k) (bang-stands s end k))
       by-bang w end e false k q = absurd (false≢true (ap isJoined q))
 
-      go : (r : Signed) → signedAt s at ≡ r → joinedBy s r ≡ joined.Value v next → written (drop at s) ≡ both (some v) (written (drop next s))
-      go (signed.Value w end) e q = by-bang w end e (standsAt 33 s end) refl q
-      go signed.NoDigit e q = absurd (false≢true (ap isJoined q))
-      go signed.TooLarge e q = absurd (false≢true (ap isJoined q))
+      go : (r : Signed) → signedAt s at ≡ r → joinedBy s r ≡ Joined.Value v next → written (drop at s) ≡ both (some v) (written (drop next s))
+      go (Signed.Value w end) e q = by-bang w end e (standsAt 33 s end) refl q
+      go Signed.NoDigit e q = absurd (false≢true (ap isJoined q))
+      go Signed.TooLarge e q = absurd (false≢true (ap isJoined q))
 
-  unjoined : joinedAt s at ≡ joined.Nothing → Few (written (drop at s))
+  unjoined : joinedAt s at ≡ Joined.Nothing → Few (written (drop at s))
   unfolding joinedAt joinedBy pairOf tripleOf
   unjoined = go (signedAt s at) refl
     where
-      by-bang : (w : ℤ) (end : ℕ) → signedAt s at ≡ signed.Value w end → (c : Bool) → standsAt 33 s end ≡ c
-          → cond c (joined.Value w (end + 1)) joined.Nothing ≡ joined.Nothing → Few (written (drop at s))
+      by-bang : (w : ℤ) (end : ℕ) → signedAt s at ≡ Signed.Value w end → (c : Bool) → standsAt 33 s end ≡ c
+          → cond c (Joined.Value w (end + 1)) Joined.Nothing ≡ Joined.Nothing → Few (written (drop at s))
       by-bang w end e true k q = absurd (true≢false (ap isJoined q))
       by-bang w end e false k q =
           ⊎-elim
@@ -157,15 +147,15 @@ module _ (s : List ℕ) (at : ℕ) where
           (λ h. rw (then-last s at w end e h) (refl, refl))
           (less-or-not end (length s))
 
-      go : (r : Signed) → signedAt s at ≡ r → joinedBy s r ≡ joined.Nothing → Few (written (drop at s))
-      go (signed.Value w end) e q = by-bang w end e (standsAt 33 s end) refl q
-      go signed.NoDigit e q = rw (then-none s at (ap isValue e)) (refl, refl)
-      go signed.TooLarge e q = rw (then-none s at (ap isValue e)) (refl, refl)
+      go : (r : Signed) → signedAt s at ≡ r → joinedBy s r ≡ Joined.Nothing → Few (written (drop at s))
+      go (Signed.Value w end) e q = by-bang w end e (standsAt 33 s end) refl q
+      go Signed.NoDigit e q = rw (then-none s at (ap isValue e)) (refl, refl)
+      go Signed.TooLarge e q = rw (then-none s at (ap isValue e)) (refl, refl)
 
 -- a value before what stands from the next place on
 abbrev pairWith : ℤ → Last → Pair
-pairWith v (last.Value w) = pair.Values v w
-pairWith v last.Nothing = pair.Refused ExpressionError
+pairWith v (Last.Value w) = Pair.Values v w
+pairWith v Last.Nothing = Pair.Refused ExpressionError
 
 pair-both : (v : ℤ) (m : Option (List ℤ)) → pairOf (both (some v) m) ≡ pairWith v (lastOf m)
 unfolding pairOf both lastOf
@@ -175,8 +165,8 @@ pair-both v (some (a ∷ [])) = refl
 pair-both v (some (a ∷ b ∷ vs)) = refl
 
 abbrev tripleWith : ℤ → Pair → Triple
-tripleWith v (pair.Values a b) = triple.Values v a b
-tripleWith v (pair.Refused e) = triple.Refused e
+tripleWith v (Pair.Values a b) = Triple.Values v a b
+tripleWith v (Pair.Refused e) = Triple.Refused e
 
 triple-both : (v : ℤ) (m : Option (List ℤ)) → tripleOf (both (some v) m) ≡ tripleWith v (pairOf m)
 unfolding tripleOf both pairOf
@@ -187,31 +177,31 @@ triple-both v (some (a ∷ b ∷ [])) = refl
 triple-both v (some (a ∷ b ∷ c ∷ vs)) = refl
 
 module _ (s : List ℕ) (at : ℕ) (j : Joined) (ej : j ≡ joinedAt s at) where
-  pub pair-none′ : j ≡ joined.Nothing → pair.Refused ExpressionError ≡ pairOf (written (drop at s))
+  pub pair-none′ : j ≡ Joined.Nothing → Pair.Refused ExpressionError ≡ pairOf (written (drop at s))
   pair-none′ q = unjoined s at (sym ej ∙ q) .0
 
-  module _ (v : ℤ) (next : ℕ) (q : j ≡ joined.Value v next) (l : Last) (el : l ≡ lastOf (written (drop next s))) where
+  module _ (v : ℤ) (next : ℕ) (q : j ≡ Joined.Value v next) (l : Last) (el : l ≡ lastOf (written (drop next s))) where
     ends : pairOf (written (drop at s)) ≡ pairWith v l
     ends = rw (joined-written s at v next (sym ej ∙ q), el) (pair-both v (written (drop next s)))
 
-    pub pair′ : (w : ℤ) → l ≡ last.Value w → pair.Values v w ≡ pairOf (written (drop at s))
+    pub pair′ : (w : ℤ) → l ≡ Last.Value w → Pair.Values v w ≡ pairOf (written (drop at s))
     pair′ w k = sym (ends ∙ rw k)
 
-    pub pair-one′ : l ≡ last.Nothing → pair.Refused ExpressionError ≡ pairOf (written (drop at s))
+    pub pair-one′ : l ≡ Last.Nothing → Pair.Refused ExpressionError ≡ pairOf (written (drop at s))
     pair-one′ k = sym (ends ∙ rw k)
 
 module _ (s : List ℕ) (j : Joined) (ej : j ≡ joinedAt s 0) where
-  pub triple-none′ : j ≡ joined.Nothing → triple.Refused ExpressionError ≡ tripleOf (written s)
+  pub triple-none′ : j ≡ Joined.Nothing → Triple.Refused ExpressionError ≡ tripleOf (written s)
   triple-none′ q = unjoined s 0 (sym ej ∙ q) .1
 
-  module _ (v : ℤ) (next : ℕ) (q : j ≡ joined.Value v next) (p : Pair) (ep : p ≡ pairOf (written (drop next s))) where
+  module _ (v : ℤ) (next : ℕ) (q : j ≡ Joined.Value v next) (p : Pair) (ep : p ≡ pairOf (written (drop next s))) where
     goes-on : tripleOf (written s) ≡ tripleWith v p
     goes-on = rw (ep) (ap tripleOf (joined-written s 0 v next (sym ej ∙ q)) ∙ triple-both v (written (drop next s)))
 
-    pub triple′ : (a b : ℤ) → p ≡ pair.Values a b → triple.Values v a b ≡ tripleOf (written s)
+    pub triple′ : (a b : ℤ) → p ≡ Pair.Values a b → Triple.Values v a b ≡ tripleOf (written s)
     triple′ a b k = sym (goes-on ∙ rw k)
 
-    pub triple-fewer′ : (e : ErrorCode) → p ≡ pair.Refused e → triple.Refused e ≡ tripleOf (written s)
+    pub triple-fewer′ : (e : ErrorCode) → p ≡ Pair.Refused e → Triple.Refused e ≡ tripleOf (written s)
     triple-fewer′ e k = sym (goes-on ∙ rw k)
 
 pub ruleset laws = (needs, pair-none′, pair′, pair-one′, triple-none′, triple′, triple-fewer′)
@@ -262,11 +252,11 @@ module _ (s : List ℕ) where
     no-bang : b ≡ false → bangs s ≡ 0
     no-bang q = omega (arith, ltb-false 0 (bangs s) (sym eb ∙ q))
 
-    pub no-one-more′ : b ≡ true → coordinate.Refused InvalidExpression ≡ noCoordinate s
+    pub no-one-more′ : b ≡ true → Coordinate.Refused InvalidExpression ≡ noCoordinate s
     unfolding noCoordinate
     no-one-more′ q = rw (more-than-one (some-bang q))
 
-    pub no-one-first′ : b ≡ false → coordinate.Refused ExpressionError ≡ noCoordinate s
+    pub no-one-first′ : b ≡ false → Coordinate.Refused ExpressionError ≡ noCoordinate s
     unfolding noCoordinate
     no-one-first′ q = rw (just-one (no-bang q))
 
@@ -277,11 +267,11 @@ module _ (s : List ℕ) where
     refused-item q = rw (← er) (go r q)
       where
         go : (r : Signed) → isValue r ≡ false → (itemBy s r) .item ≡ item.Refused ExpressionError
-        go (signed.Value v end) q = absurd (true≢false q)
-        go signed.NoDigit q = refl
-        go signed.TooLarge q = refl
+        go (Signed.Value v end) q = absurd (true≢false q)
+        go Signed.NoDigit q = refl
+        go Signed.TooLarge q = refl
 
-    no-first : isValue r ≡ false → bangs s ≡ 0 → firstOf ((itemAt s 0) .item) ≡ coordinate.Refused ExpressionError
+    no-first : isValue r ≡ false → bangs s ≡ 0 → firstOf ((itemAt s 0) .item) ≡ Coordinate.Refused ExpressionError
     unfolding firstOf itemAt
     no-first q z =
         ⊎-elim
@@ -294,18 +284,18 @@ module _ (s : List ℕ) where
     same-refusal q = go (eqb (dimensionOf s) 1) refl
       where
         go : (c : Bool) → eqb (dimensionOf s) 1 ≡ c
-            → cond c (coordinate.Refused ExpressionError) (coordinate.Refused InvalidExpression) ≡ cond c (firstOf ((itemAt s 0) .item)) (coordinate.Refused InvalidExpression)
+            → cond c (Coordinate.Refused ExpressionError) (Coordinate.Refused InvalidExpression) ≡ cond c (firstOf ((itemAt s 0) .item)) (Coordinate.Refused InvalidExpression)
         go true e = sym (no-first q (only-one s e))
         go false e = refl
 
-    pub one-none′ : r ≡ signed.NoDigit → (x : Coordinate) → x ≡ noCoordinate s → x ≡ coordinateOf s
+    pub one-none′ : r ≡ Signed.NoDigit → (x : Coordinate) → x ≡ noCoordinate s → x ≡ coordinateOf s
     one-none′ q x ex = ex ∙ same-refusal (ap isValue q)
 
-    pub one-large′ : r ≡ signed.TooLarge → (x : Coordinate) → x ≡ noCoordinate s → x ≡ coordinateOf s
+    pub one-large′ : r ≡ Signed.TooLarge → (x : Coordinate) → x ≡ noCoordinate s → x ≡ coordinateOf s
     one-large′ q x ex = ex ∙ same-refusal (ap isValue q)
 
     -- an integer begins it, in which there is no `!`
-    module _ (v : ℤ) (end : ℕ) (q : r ≡ signed.Value v end) (b : Bool) (eb : b ≡ ltb 0 (bangs (drop end s))) where
+    module _ (v : ℤ) (end : ℕ) (q : r ≡ Signed.Value v end) (b : Bool) (eb : b ≡ ltb 0 (bangs (drop end s))) where
       word : Read s 0 v end
       word = integer-form s 0 v end (sym er ∙ q)
 
@@ -319,11 +309,11 @@ module _ (s : List ℕ) where
       not-empty =
           omega (arith, ap length (word .parts), length-append (word .word) (word .rest), some-byte (word .word) v (word .decimal))
 
-      pub one-more′ : b ≡ true → coordinate.Refused InvalidExpression ≡ coordinateOf s
+      pub one-more′ : b ≡ true → Coordinate.Refused InvalidExpression ≡ coordinateOf s
       unfolding coordinateOf
       one-more′ k = rw (more-than-one (omega (arith, counted, ltb-true 0 (bangs (drop end s)) (sym eb ∙ k))))
 
-      pub one′ : b ≡ false → coordinate.Value v ≡ coordinateOf s
+      pub one′ : b ≡ false → Coordinate.Value v ≡ coordinateOf s
       unfolding coordinateOf firstOf itemOf itemBy
       one′ k =
           let z : bangs s ≡ 0 = omega (arith, counted, ltb-false 0 (bangs (drop end s)) (sym eb ∙ k)) in

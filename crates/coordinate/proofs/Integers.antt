@@ -15,22 +15,16 @@ use borrow.Author.Tests.{eq-eqb, ne-eqb, le-leb, leb-true, lt-ltb, ltb-true}
 use Rattle.kind.specs.Class.{isDigit}
 use Rattle.kind.proofs.Tests.{and-left, less-or-not}
 use Rattle.util.specs.Run.{run, runEnd, signEnd, standsAt, every}
-use Rattle.util.proofs.Runs.{run-again}
-use Rattle.util.proofs.Every.{run-whole}
-use Rattle.number.specs.Digit.{isDigitOf, valueOf}
+use Rattle.util.proofs.{Runs.run-again, Every.run-whole}
+use Rattle.number.specs.{Digit.isDigitOf, Digit.valueOf, declared.Signed.Signed}
 use Rattle.number.specs.Number.{digits, foundAt, unsignedOf, unsignedAt, signedOf, signedAt}
 use Rattle.number.specs.declared.Unsigned.the-variants as unsigned
-use Rattle.number.specs.declared.Signed.{Signed}
-use Rattle.number.specs.declared.Signed.the-variants as signed
 use Rattle.number.proofs.Digits.{decimal}
 use Rattle.decimal.specs.Decimal.{wholeEnd}
-use Rattle.decimal.specs.Form.{Whole}
+use Rattle.forms.specs.DecimalForm.{Whole}
 use Rattle.coordinate.specs.Form.{signedBy, Decimal}
-use Rattle.item.proofs.Accepted.{part}
-use Rattle.decimal.proofs.Progress.{whole-from}
-use Rattle.item.proofs.Seams.{none-first, here-get, here-inside, here-next}
-use Rattle.decimal.proofs.Numbers.{whole-sign}
-use Rattle.decimal.proofs.NumberForms.{whole-form, whole-count}
+use Rattle.forms.proofs.{ItemAccepted.part, DecimalProgress.whole-from, Decimals.whole-sign, DecimalForms.whole-form, DecimalForms.whole-count}
+use Rattle.forms.proofs.ItemSeams.{none-first, here-get, here-inside, here-next}
 
 -- the value of a sign and a number, where it is one of 64 bits
 abbrev worth : Bool → ℕ → Option ℤ
@@ -42,8 +36,8 @@ bounded minus n = cond (ltb n (2 ^ 64)) (worth minus n) none
 
 -- that value, with the place behind it
 abbrev asSigned : Option ℤ → ℕ → Signed
-asSigned none end = signed.TooLarge
-asSigned (some v) end = signed.Value v end
+asSigned none end = Signed.TooLarge
+asSigned (some v) end = Signed.Value v end
 
 decimal-digits : isDigitOf 10 ≡ isDigit
 decimal-digits = fun-ext decimal
@@ -116,12 +110,12 @@ module _ (minus : Bool) (at : ℕ) (ds : List ℕ) (h : 0 < length ds) where
       go : (m c : Bool) → signedOf m (cond c (unsigned.Value n end) unsigned.TooLarge) ≡ asSigned (cond c (worth m n) none) end
       go true true = below (leb n (2 ^ 63))
         where
-          below : (d : Bool) → cond d (signed.Value (negℤ (pos n)) end) signed.TooLarge ≡ asSigned (cond d (some (negℤ (pos n))) none) end
+          below : (d : Bool) → cond d (Signed.Value (negℤ (pos n)) end) Signed.TooLarge ≡ asSigned (cond d (some (negℤ (pos n))) none) end
           below true = refl
           below false = refl
       go false true = above (ltb n (2 ^ 63))
         where
-          above : (d : Bool) → cond d (signed.Value (pos n) end) signed.TooLarge ≡ asSigned (cond d (some (pos n)) none) end
+          above : (d : Bool) → cond d (Signed.Value (pos n) end) Signed.TooLarge ≡ asSigned (cond d (some (pos n)) none) end
           above true = refl
           above false = refl
       go true false = refl
@@ -191,26 +185,26 @@ pub some-byte : (t : List ℕ) (v : ℤ) → Decimal t v → 0 < length t
 some-byte t v d =
     omega (arith, ap length (d .form .parts), length-append (d .form .sign) (d .form .digits), d .some-digit)
 
-pub decimal-read : (s : List ℕ) (at : ℕ) (w y : List ℕ) → drop at s ≡ w ++ y → (v : ℤ) → Decimal w v → isDigit (getD y 0 0) ≡ false → signedAt s at ≡ signed.Value v (at + length w)
+pub decimal-read : (s : List ℕ) (at : ℕ) (w y : List ℕ) → drop at s ≡ w ++ y → (v : ℤ) → Decimal w v → isDigit (getD y 0 0) ≡ false → signedAt s at ≡ Signed.Value v (at + length w)
 decimal-read s at w y h v d stops =
     integer-read s at w y h (d .form) (d .some-digit) stops ∙ ap (λ (o : Option ℤ). asSigned o (at + length w)) (decimal-worth d)
 
 abbrev valueIn : Signed → Option ℤ
-valueIn (signed.Value v end) = some v
-valueIn signed.NoDigit = none
-valueIn signed.TooLarge = none
+valueIn (Signed.Value v end) = some v
+valueIn Signed.NoDigit = none
+valueIn Signed.TooLarge = none
 
 abbrev endIn : Signed → ℕ
-endIn (signed.Value v end) = end
-endIn signed.NoDigit = 0
-endIn signed.TooLarge = 0
+endIn (Signed.Value v end) = end
+endIn Signed.NoDigit = 0
+endIn Signed.TooLarge = 0
 
 abbrev pub isValue : Signed → Bool
-isValue (signed.Value v end) = true
-isValue signed.NoDigit = false
-isValue signed.TooLarge = false
+isValue (Signed.Value v end) = true
+isValue Signed.NoDigit = false
+isValue Signed.TooLarge = false
 
-value-same : (o : Option ℤ) (i : ℕ) (v : ℤ) (end : ℕ) → asSigned o i ≡ signed.Value v end → (o ≡ some v) × (i ≡ end)
+value-same : (o : Option ℤ) (i : ℕ) (v : ℤ) (end : ℕ) → asSigned o i ≡ Signed.Value v end → (o ≡ some v) × (i ≡ end)
 value-same none i v end e = absurd (false≢true (ap isValue e))
 value-same (some w) i v end e = (ap valueIn e, ap endIn e)
 
@@ -232,7 +226,7 @@ module _ (s : List ℕ) (at : ℕ) where
   unfolding wholeEnd runEnd
   width k = omega (arith, k)
 
-  no-digits : length (whole-form s at .digits) ≡ 0 → signedAt s at ≡ signed.NoDigit
+  no-digits : length (whole-form s at .digits) ≡ 0 → signedAt s at ≡ Signed.NoDigit
   unfolding signedAt unsignedAt unsignedOf foundAt signedOf digits valueOf
   no-digits e =
       let z : run isDigit (drop (signEnd s at) s) ≡ 0 = width (sym (whole-count s at) ∙ e) in
@@ -251,7 +245,7 @@ module _ (s : List ℕ) (at : ℕ) where
   unfolding isDigit
   stopped = none-there isDigit refl (drop (wholeEnd s at) s) (run-none isDigit s (wholeEnd s at) whole-ends)
 
-  pub integer-form : (v : ℤ) (end : ℕ) → signedAt s at ≡ signed.Value v end → Read s at v end
+  pub integer-form : (v : ℤ) (end : ℕ) → signedAt s at ≡ Signed.Value v end → Read s at v end
   integer-form v end e = ⊎-elim found none-found (less-or-not 0 (length (whole-form s at .digits)))
     where
       found : 0 < length (whole-form s at .digits) → Read s at v end

@@ -3,4 +3,3 @@ pub mod Integers
 pub mod Parts
 pub mod Bangs
 pub mod Coordinates
-pub mod Claims

@@ -16,11 +16,9 @@ use Rattle.kind.specs.Class.{isDigit, isSign}
 use Rattle.kind.proofs.Tests.{and-left, and-right, either}
 use Rattle.util.specs.Run.{every}
 use Rattle.util.proofs.Every.{every-join, every-weaker}
-use Rattle.number.specs.Number.{signedAt}
-use Rattle.number.specs.declared.Signed.{Signed}
-use Rattle.number.specs.declared.Signed.the-variants as signed
-use Rattle.item.proofs.Seams.{here-next}
-use Rattle.decimal.specs.Form.{Whole}
+use Rattle.number.specs.{Number.signedAt, declared.Signed.Signed}
+use Rattle.forms.proofs.ItemSeams.{here-next}
+use Rattle.forms.specs.DecimalForm.{Whole}
 use Rattle.coordinate.specs.Coordinate.{onto, parts, whole, integer, both, integers, written}
 use Rattle.coordinate.specs.Form.{Decimal}
 use Rattle.coordinate.proofs.Integers.{Read, isValue, none-some, some-same, decimal-read, integer-form}
@@ -95,15 +93,15 @@ empty : (l : List ℕ) → length l ≡ 0 → l ≡ []
 empty [] e = refl
 empty (b ∷ l) e = absurd (omega (arith, e))
 
-all-of : (t : List ℕ) (v : ℤ) (r : Signed) → whole (length t) r ≡ some v → r ≡ signed.Value v (length t)
+all-of : (t : List ℕ) (v : ℤ) (r : Signed) → whole (length t) r ≡ some v → r ≡ Signed.Value v (length t)
 unfolding whole
-all-of t v (signed.Value w end) e = go (eqb end (length t)) refl e
+all-of t v (Signed.Value w end) e = go (eqb end (length t)) refl e
   where
-    go : (c : Bool) → eqb end (length t) ≡ c → cond c (some w) none ≡ some v → signed.Value w end ≡ signed.Value v (length t)
+    go : (c : Bool) → eqb end (length t) ≡ c → cond c (some w) none ≡ some v → Signed.Value w end ≡ Signed.Value v (length t)
     go true f q = rw (eqb-true end (length t) f, some-same q)
     go false f q = absurd (none-some q)
-all-of t v signed.NoDigit e = absurd (none-some e)
-all-of t v signed.TooLarge e = absurd (none-some e)
+all-of t v Signed.NoDigit e = absurd (none-some e)
+all-of t v Signed.TooLarge e = absurd (none-some e)
 
 pub integer-is : (t : List ℕ) (v : ℤ) → integer t ≡ some v → Decimal t v
 unfolding integer
@@ -115,7 +113,7 @@ integer-is t v e =
     rw w (r .decimal)
 
 -- The coordinates of a text from a place on, by the integer that was read there.
-module _ (s : List ℕ) (at : ℕ) (v : ℤ) (end : ℕ) (e : signedAt s at ≡ signed.Value v end) where
+module _ (s : List ℕ) (at : ℕ) (v : ℤ) (end : ℕ) (e : signedAt s at ≡ Signed.Value v end) where
   r : Read s at v end
   r = integer-form s at v end e
 

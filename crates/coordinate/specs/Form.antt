@@ -9,7 +9,7 @@ use lib.Signed.{mag}
 use lib.ListN.{length}
 use Rattle.util.specs.Run.{standsAt}
 use Rattle.number.specs.Digit.{valueOf}
-use Rattle.decimal.specs.Form.{Whole}
+use Rattle.forms.specs.DecimalForm.{Whole}
 use Rattle.channel_spec.specs.Item.{itemAt}
 use Rattle.channel_spec.specs.declared.Item.the-variants as item
 

@@ -1,4 +1,3 @@
 pub mod Coordinate
 pub mod Reading
 pub mod Form
-pub mod Claims

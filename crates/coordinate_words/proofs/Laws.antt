@@ -6,23 +6,12 @@ use native.Mathlib.Omega.{arith}
 use lib.IntN.{ℤ, pos}
 use lib.ListN.{length, set}
 use borrow.Author.Needs.{needs}
-use Rattle.error.specs.Code.{codeOf}
-use Rattle.error.specs.declared.ErrorCode.{ErrorCode}
-use Rattle.error.specs.declared.ErrorCode.the-variants.{NoSlotLeft}
+use Rattle.error.specs.{Code.codeOf, declared.ErrorCode.ErrorCode, declared.ErrorCode.the-variants.NoSlotLeft}
 use Rattle.coordinate.specs.Coordinate.{coordinateOf, written, pairOf, tripleOf}
-use Rattle.coordinate.specs.declared.Coordinate.{Coordinate}
-use Rattle.coordinate.specs.declared.Coordinate.the-variants as coordinate
-use Rattle.coordinate.specs.declared.Pair.{Pair}
-use Rattle.coordinate.specs.declared.Pair.the-variants as pair
-use Rattle.coordinate.specs.declared.Triple.{Triple}
-use Rattle.coordinate.specs.declared.Triple.the-variants as triple
+use Rattle.coordinate.specs.{declared.Coordinate.Coordinate, declared.Pair.Pair, declared.Triple.Triple}
 use Rattle.unsigned_coordinate.specs.Unsigned.{unsignedOf, unsignedPairOf, unsignedTripleOf}
-use Rattle.unsigned_coordinate.specs.declared.UnsignedCoordinate.{UnsignedCoordinate}
-use Rattle.unsigned_coordinate.specs.declared.UnsignedCoordinate.the-variants as unsigned-coordinate
-use Rattle.unsigned_coordinate.specs.declared.UnsignedPair.{UnsignedPair}
-use Rattle.unsigned_coordinate.specs.declared.UnsignedPair.the-variants as unsigned-pair
+use Rattle.unsigned_coordinate.specs.{declared.UnsignedCoordinate.UnsignedCoordinate, declared.UnsignedPair.UnsignedPair}
 use Rattle.unsigned_coordinate.specs.declared.UnsignedTriple.{UnsignedTriple}
-use Rattle.unsigned_coordinate.specs.declared.UnsignedTriple.the-variants as unsigned-triple
 use Rattle.words.specs.Outcome.{Outcome}
 use Rattle.coordinate_words.specs.Coordinates.{oneIn, twoIn, threeIn, coordinatesIn, unsignedOneIn, unsignedTwoIn, unsignedThreeIn, unsignedIn}
 
@@ -49,56 +38,56 @@ three (x ∷ y ∷ z ∷ w ∷ l) a b c h = absurd (omega (arith, h))
 -- what was read, by its case
 
 module _ (l : List ℤ) (e : ErrorCode) (n : ℤ) (en : n ≡ codeOf e) where
-  pub one-refused′ : (x : Coordinate) → x ≡ coordinate.Refused e → record { code = n; words = l } ≡ oneIn l x
+  pub one-refused′ : (x : Coordinate) → x ≡ Coordinate.Refused e → record { code = n; words = l } ≡ oneIn l x
   unfolding oneIn
   one-refused′ x q = rw (q, en)
 
-  pub two-refused′ : (x : Pair) → x ≡ pair.Refused e → record { code = n; words = l } ≡ twoIn l x
+  pub two-refused′ : (x : Pair) → x ≡ Pair.Refused e → record { code = n; words = l } ≡ twoIn l x
   unfolding twoIn
   two-refused′ x q = rw (q, en)
 
-  pub three-refused′ : (x : Triple) → x ≡ triple.Refused e → record { code = n; words = l } ≡ threeIn l x
+  pub three-refused′ : (x : Triple) → x ≡ Triple.Refused e → record { code = n; words = l } ≡ threeIn l x
   unfolding threeIn
   three-refused′ x q = rw (q, en)
 
 module _ (l : List ℤ) where
-  pub one-value′ : (x : Coordinate) (a : ℤ) → length l ≡ 1 → x ≡ coordinate.Value a → record { code = pos 0; words = set l 0 a } ≡ oneIn l x
+  pub one-value′ : (x : Coordinate) (a : ℤ) → length l ≡ 1 → x ≡ Coordinate.Value a → record { code = pos 0; words = set l 0 a } ≡ oneIn l x
   unfolding oneIn
   one-value′ x a h q = rw (q, one l a h)
 
-  pub two-values′ : (x : Pair) (a b : ℤ) → length l ≡ 2 → x ≡ pair.Values a b → record { code = pos 0; words = set (set l 0 a) 1 b } ≡ twoIn l x
+  pub two-values′ : (x : Pair) (a b : ℤ) → length l ≡ 2 → x ≡ Pair.Values a b → record { code = pos 0; words = set (set l 0 a) 1 b } ≡ twoIn l x
   unfolding twoIn
   two-values′ x a b h q = rw (q, two l a b h)
 
-  pub three-values′ : (x : Triple) (a b c : ℤ) → length l ≡ 3 → x ≡ triple.Values a b c → record { code = pos 0; words = set (set (set l 0 a) 1 b) 2 c } ≡ threeIn l x
+  pub three-values′ : (x : Triple) (a b c : ℤ) → length l ≡ 3 → x ≡ Triple.Values a b c → record { code = pos 0; words = set (set (set l 0 a) 1 b) 2 c } ≡ threeIn l x
   unfolding threeIn
   three-values′ x a b c h q = rw (q, three l a b c h)
 
 pub ruleset put-laws = (needs, one-refused′, two-refused′, three-refused′, one-value′, two-values′, three-values′)
 
 module _ (l : List ℕ) (e : ErrorCode) (n : ℤ) (en : n ≡ codeOf e) where
-  pub one-unsigned-refused′ : (x : UnsignedCoordinate) → x ≡ unsigned-coordinate.Refused e → record { code = n; words = l } ≡ unsignedOneIn l x
+  pub one-unsigned-refused′ : (x : UnsignedCoordinate) → x ≡ UnsignedCoordinate.Refused e → record { code = n; words = l } ≡ unsignedOneIn l x
   unfolding unsignedOneIn
   one-unsigned-refused′ x q = rw (q, en)
 
-  pub two-unsigned-refused′ : (x : UnsignedPair) → x ≡ unsigned-pair.Refused e → record { code = n; words = l } ≡ unsignedTwoIn l x
+  pub two-unsigned-refused′ : (x : UnsignedPair) → x ≡ UnsignedPair.Refused e → record { code = n; words = l } ≡ unsignedTwoIn l x
   unfolding unsignedTwoIn
   two-unsigned-refused′ x q = rw (q, en)
 
-  pub three-unsigned-refused′ : (x : UnsignedTriple) → x ≡ unsigned-triple.Refused e → record { code = n; words = l } ≡ unsignedThreeIn l x
+  pub three-unsigned-refused′ : (x : UnsignedTriple) → x ≡ UnsignedTriple.Refused e → record { code = n; words = l } ≡ unsignedThreeIn l x
   unfolding unsignedThreeIn
   three-unsigned-refused′ x q = rw (q, en)
 
 module _ (l : List ℕ) where
-  pub one-unsigned′ : (x : UnsignedCoordinate) (a : ℕ) → length l ≡ 1 → x ≡ unsigned-coordinate.Value a → record { code = pos 0; words = set l 0 a } ≡ unsignedOneIn l x
+  pub one-unsigned′ : (x : UnsignedCoordinate) (a : ℕ) → length l ≡ 1 → x ≡ UnsignedCoordinate.Value a → record { code = pos 0; words = set l 0 a } ≡ unsignedOneIn l x
   unfolding unsignedOneIn
   one-unsigned′ x a h q = rw (q, one l a h)
 
-  pub two-unsigned′ : (x : UnsignedPair) (a b : ℕ) → length l ≡ 2 → x ≡ unsigned-pair.Values a b → record { code = pos 0; words = set (set l 0 a) 1 b } ≡ unsignedTwoIn l x
+  pub two-unsigned′ : (x : UnsignedPair) (a b : ℕ) → length l ≡ 2 → x ≡ UnsignedPair.Values a b → record { code = pos 0; words = set (set l 0 a) 1 b } ≡ unsignedTwoIn l x
   unfolding unsignedTwoIn
   two-unsigned′ x a b h q = rw (q, two l a b h)
 
-  pub three-unsigned′ : (x : UnsignedTriple) (a b c : ℕ) → length l ≡ 3 → x ≡ unsigned-triple.Values a b c
+  pub three-unsigned′ : (x : UnsignedTriple) (a b c : ℕ) → length l ≡ 3 → x ≡ UnsignedTriple.Values a b c
       → record { code = pos 0; words = set (set (set l 0 a) 1 b) 2 c } ≡ unsignedThreeIn l x
   unfolding unsignedThreeIn
   three-unsigned′ x a b c h q = rw (q, three l a b c h)

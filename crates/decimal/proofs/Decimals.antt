@@ -12,16 +12,13 @@ use Rattle.error.specs.declared.ErrorCode.the-variants.{NumericDataError, Inval
 use Rattle.kind.specs.Class.{isLetter, isDigit, isWhiteSpace}
 use Rattle.util.specs.Run.{runEnd, signEnd, standsAt}
 use Rattle.util.proofs.Runs.{run-again, run-from}
-use Rattle.token.specs.View.{viewOf}
-use Rattle.token.specs.declared.View.{View}
+use Rattle.token.specs.{View.viewOf, declared.View.View}
 use Rattle.token.specs.declared.Token.the-variants.{DecimalNumericProgramData, DecimalNumericSuffixProgramData}
 use Rattle.item.specs.Follow.{token, refused, followed}
-use Rattle.item.specs.Near.{runEndAmong}
-use Rattle.item.specs.declared.Read.{Read}
+use Rattle.item.specs.{Near.runEndAmong, declared.Read.Read}
 use Rattle.item.proofs.Among.{among-from, among-under, among-whole}
 use Rattle.decimal.specs.Decimal.{wholeEnd, hasWhole, fractionEnd, hasFraction, mantissa, beginsExponent, exponent, withExponent, number, numberTo, nrf, inSuffix, beginsSuffix, suffixed, suffixData, numericTo, numericData}
-use Rattle.decimal.specs.declared.Place.{Place}
-use Rattle.decimal.specs.declared.Place.the-variants.{At, Nowhere}
+use Rattle.decimal.specs.{declared.Place.Place, declared.Place.the-variants.At, declared.Place.the-variants.Nowhere}
 
 module _ (s : List ℕ) (at : ℕ) where
   pub fraction-past′ : length s ≤ at → at ≡ fractionEnd s at

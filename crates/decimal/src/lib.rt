@@ -8,7 +8,7 @@ use token::Token;
 use token::View;
 
 // A place, or that there is none.
-enum Place {
+pub enum Place {
     At(usize),
     Nowhere,
 }

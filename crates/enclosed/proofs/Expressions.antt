@@ -11,10 +11,8 @@ use borrow.Author.Tests.{lt-ltb, le-ltb, le-leb, ne-eqb}
 use Rattle.error.specs.declared.ErrorCode.the-variants.{SuffixNotAllowed, InvalidExpression}
 use Rattle.kind.specs.Class.{isQuote, isAscii}
 use Rattle.util.specs.Run.{runEnd, standsAt}
-use Rattle.token.specs.View.{viewOf}
-use Rattle.token.specs.declared.Token.the-variants.{ExpressionProgramData}
-use Rattle.item.specs.Follow.{refused, followed}
-use Rattle.item.specs.declared.Read.{Read}
+use Rattle.token.specs.{View.viewOf, declared.Token.the-variants.ExpressionProgramData}
+use Rattle.item.specs.{Follow.refused, Follow.followed, declared.Read.Read}
 use Rattle.enclosed.specs.Expression.{inExpression, bracketed, expressionData}
 
 module _ (b : ℕ) where

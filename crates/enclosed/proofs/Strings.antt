@@ -11,10 +11,8 @@ use borrow.Author.Needs.{needs}
 use borrow.Author.Tests.{le-leb, lt-leb, eq-eqb, ne-eqb}
 use Rattle.error.specs.declared.ErrorCode.the-variants.{InvalidCharacter, InvalidStringData, SuffixNotAllowed}
 use Rattle.kind.specs.Class.{isAscii}
-use Rattle.token.specs.View.{viewOf}
-use Rattle.token.specs.declared.Token.the-variants.{StringProgramData}
-use Rattle.item.specs.Follow.{refused, followed}
-use Rattle.item.specs.declared.Read.{Read}
+use Rattle.token.specs.{View.viewOf, declared.Token.the-variants.StringProgramData}
+use Rattle.item.specs.{Follow.refused, Follow.followed, declared.Read.Read}
 use Rattle.enclosed.specs.String.{inString, stringEnd, closed, stringData}
 
 module _ (q b : ℕ) (t : List ℕ) where

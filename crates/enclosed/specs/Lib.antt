@@ -1,4 +1,2 @@
 pub mod String
 pub mod Expression
-pub mod Form
-pub mod Claims

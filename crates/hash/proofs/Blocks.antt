@@ -13,8 +13,7 @@ use Rattle.error.specs.declared.ErrorCode.the-variants.{NumericDataError, Suffi
 use Rattle.kind.specs.Class.{isDigit}
 use Rattle.kind.proofs.Tests.{and-left}
 use Rattle.number.specs.declared.Radix.the-variants.{Binary, Octal, Hexadecimal}
-use Rattle.token.specs.View.{viewOf}
-use Rattle.token.specs.declared.Token.the-variants.{ArbitraryBlockData}
+use Rattle.token.specs.{View.viewOf, declared.Token.the-variants.ArbitraryBlockData}
 use Rattle.item.specs.Follow.{token, refused, followed}
 use Rattle.item.specs.declared.Read.{Read}
 use Rattle.hash.specs.Nondecimal.{nondecimalData}

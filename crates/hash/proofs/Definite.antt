@@ -15,15 +15,11 @@ use Rattle.kind.specs.Class.{isDigit}
 use Rattle.kind.proofs.Tests.{less-or-not}
 use Rattle.util.specs.Run.{run, every}
 use Rattle.util.proofs.Every.{every-weaker, every-run, run-every}
-use Rattle.number.specs.Digit.{isDigitOf, valueOf}
+use Rattle.number.specs.{Digit.isDigitOf, Digit.valueOf, declared.Radix.the-variants.Decimal, declared.Unsigned.Unsigned}
 use Rattle.number.specs.Number.{digits, foundAt, unsignedOf, unsignedAt}
-use Rattle.number.specs.declared.Radix.the-variants.{Decimal}
-use Rattle.number.specs.declared.Unsigned.{Unsigned}
 use Rattle.number.specs.declared.Unsigned.the-variants.{Value, NoDigit, TooLarge}
-use Rattle.number.proofs.Digits.{decimal}
-use Rattle.number.proofs.Values.{taken}
-use Rattle.item.specs.Follow.{refused}
-use Rattle.item.specs.declared.Read.{Read}
+use Rattle.number.proofs.{Digits.decimal, Values.taken}
+use Rattle.item.specs.{Follow.refused, declared.Read.Read}
 use Rattle.hash.specs.Block.{payload, definite}
 
 -- what tells two answers apart

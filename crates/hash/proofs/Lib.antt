@@ -2,6 +2,3 @@
 pub mod Nondecimals
 pub mod Blocks
 pub mod Definite
-pub mod Forms
-pub mod Claims
-pub mod Progress

@@ -6,13 +6,10 @@ use lib.ListN.{length}
 use borrow.Author.Needs.{needs}
 use borrow.Author.Tests.{le-leb, lt-leb}
 use Rattle.error.specs.declared.ErrorCode.the-variants.{NumericDataError, InvalidCharacterInNumber, SuffixNotAllowed, DataOutOfRange}
-use Rattle.number.specs.Number.{unsignedAt}
-use Rattle.number.specs.declared.Radix.{Radix}
-use Rattle.number.specs.declared.Unsigned.{Unsigned}
+use Rattle.number.specs.{Number.unsignedAt, declared.Radix.Radix, declared.Unsigned.Unsigned}
 use Rattle.number.specs.declared.Unsigned.the-variants.{Value, NoDigit, TooLarge}
 use Rattle.token.specs.declared.Token.the-variants.{NonDecimalNumericProgramData}
-use Rattle.item.specs.Follow.{refused, followed}
-use Rattle.item.specs.declared.Read.{Read}
+use Rattle.item.specs.{Follow.refused, Follow.followed, declared.Read.Read}
 use Rattle.hash.specs.Nondecimal.{nondecimalOf, nondecimalData}
 
 module _ (radix : Radix) (s : List ℕ) (at : ℕ) (u : Unsigned) (eu : u ≡ unsignedAt radix s at) where

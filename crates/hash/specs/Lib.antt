@@ -1,4 +1,2 @@
 pub mod Nondecimal
 pub mod Block
-pub mod Form
-pub mod Claims

@@ -16,32 +16,25 @@ use Rattle.separator.specs.Separator.{followsQuery, questionTo}
 use Rattle.separator.specs.declared.Pass.the-variants as pass
 use Rattle.node.specs.Word.{commandNumber}
 use Rattle.token.specs.declared.Token.the-variants.{HeaderQuerySuffix, ProgramHeaderSeparator, ProgramMessageUnitSeparator}
-use Rattle.tokenizer.specs.Step.{stateOf}
-use Rattle.tokenizer.specs.declared.State.{State}
-use Rattle.ahead.specs.Seen.{seenWith, seenAt}
-use Rattle.ahead.specs.declared.Stop.{Stop}
-use Rattle.ahead.specs.declared.Stop.the-variants as stop
-use Rattle.ahead.specs.declared.Ahead.{Ahead}
-use Rattle.ahead.specs.declared.Ahead.the-variants as ahead
-use Rattle.ahead.specs.declared.Seen.{Seen}
+use Rattle.tokenizer.specs.{Step.stateOf, declared.State.State}
+use Rattle.ahead.specs.{Seen.seenWith, Seen.seenAt, declared.Stop.Stop, declared.Ahead.Ahead, declared.Seen.Seen}
 use Rattle.header.specs.Turn as turn
 use Rattle.header.specs.Header.{undefined, queryAnswer, leafAnswer, atBranch, turnOf}
 use Rattle.header.specs.Internal.{aheadAt, afterByte, halts, endsAt, isEnding, refusedBy}
 use Rattle.header.specs.declared.Header.{Header}
-use Rattle.header.specs.declared.Header.the-variants as header
 use Rattle.header.proofs.Looks.{taken-is′, passed-to′, end-seen′, question-seen′, space-seen′, semicolon-seen′}
 use Rattle.header.proofs.Places.{inside, there}
 
 -- what ends a header at a place, and the place after that
 data Halted (s : List ℕ) (at : ℕ) : Stop → ℕ → Type 0 where
-  text : length s ≤ at → Halted s at stop.Text at
-  space : at < length s → getD s at 0 ≡ 32 → Halted s at stop.Separator (runEnd isWhiteSpace s at)
-  semicolon : at < length s → getD s at 0 ≡ 59 → Halted s at stop.Unit (runEnd isWhiteSpace s (at + 1))
+  text : length s ≤ at → Halted s at Stop.Text at
+  space : at < length s → getD s at 0 ≡ 32 → Halted s at Stop.Separator (runEnd isWhiteSpace s at)
+  semicolon : at < length s → getD s at 0 ≡ 59 → Halted s at Stop.Unit (runEnd isWhiteSpace s (at + 1))
 
 record Ends (x : Stop) (n : ℕ) (seen : Seen) : Type 0 where
   state : State
   place : state .place ≡ n
-  is : seenWith (ahead.Stop x) state ≡ seen
+  is : seenWith (Ahead.Stop x) state ≡ seen
 
 -- what is ahead there, whatever the flags are
 seen : (s : List ℕ) (at : ℕ) (h c : Bool) {x : Stop} {n : ℕ} → Halted s at x n → Ends x n (seenAt s (stateOf at h c))
@@ -50,13 +43,13 @@ seen s at h c (space l e) =
     record {
       state = stateOf (runEnd isWhiteSpace s at) false c;
       place = refl;
-      is = space-seen′ s (stateOf at h c) _ l _ e refl (taken-is′ ProgramHeaderSeparator _ false c (ahead.Stop stop.Separator) refl);
+      is = space-seen′ s (stateOf at h c) _ l _ e refl (taken-is′ ProgramHeaderSeparator _ false c (Ahead.Stop Stop.Separator) refl);
     }
 seen s at h c (semicolon l e) =
     record {
       state = stateOf (runEnd isWhiteSpace s (at + 1)) true false;
       place = refl;
-      is = semicolon-seen′ s (stateOf at h c) _ l _ e refl (taken-is′ ProgramMessageUnitSeparator _ true false (ahead.Stop stop.Unit) refl);
+      is = semicolon-seen′ s (stateOf at h c) _ l _ e refl (taken-is′ ProgramMessageUnitSeparator _ true false (Ahead.Stop Stop.Unit) refl);
     }
 
 -- a question mark may stand before it
@@ -67,45 +60,45 @@ follows s at (space l e) = rw e (or-right (leb (length s) at) refl)
 follows s at (semicolon l e) = rw e (or-right (leb (length s) at) refl)
 
 module _ (s : List ℕ) (p : ℕ) (common : Bool) where
-  query-ahead : standsAt 63 s p ≡ true → followsQuery s (p + 1) ≡ true → seenWith ahead.Query (stateOf (p + 1) false common) ≡ aheadAt s p common
+  query-ahead : standsAt 63 s p ≡ true → followsQuery s (p + 1) ≡ true → seenWith Ahead.Query (stateOf (p + 1) false common) ≡ aheadAt s p common
   unfolding questionTo
   query-ahead e f =
       question-seen′ s (stateOf p true common) _ (inside s p 63 e) (pass.To (p + 1)) (there s p 63 e) go
-      (passed-to′ s (stateOf p true common) _ (pass.To (p + 1)) HeaderQuerySuffix false (p + 1) refl (taken-is′ HeaderQuerySuffix (p + 1) false common ahead.Query refl))
+      (passed-to′ s (stateOf p true common) _ (pass.To (p + 1)) HeaderQuerySuffix false (p + 1) refl (taken-is′ HeaderQuerySuffix (p + 1) false common Ahead.Query refl))
     where
       go : pass.To (p + 1) ≡ questionTo s (p + 1) true
       go = rw f
 
   module _ (w kept : ℕ) {x : Stop} {n : ℕ} where
-    plain-found : Halted s p x n → header.Found (commandNumber w) false kept x n ≡ leafAnswer s w kept (aheadAt s p common)
+    plain-found : Halted s p x n → Header.Found (commandNumber w) false kept x n ≡ leafAnswer s w kept (aheadAt s p common)
     unfolding leafAnswer
-    plain-found h = let z = seen s p true common h in ap (header.Found (commandNumber w) false kept x) (sym (z .place)) ∙ ap (leafAnswer s w kept) (z .is)
+    plain-found h = let z = seen s p true common h in ap (Header.Found (commandNumber w) false kept x) (sym (z .place)) ∙ ap (leafAnswer s w kept) (z .is)
 
-    query-found : standsAt 63 s p ≡ true → Halted s (p + 1) x n → header.Found (commandNumber w) true kept x n ≡ leafAnswer s w kept (aheadAt s p common)
+    query-found : standsAt 63 s p ≡ true → Halted s (p + 1) x n → Header.Found (commandNumber w) true kept x n ≡ leafAnswer s w kept (aheadAt s p common)
     unfolding leafAnswer queryAnswer
     query-found e h =
         let z = seen s (p + 1) false common h in
-        ap (header.Found (commandNumber w) true kept x) (sym (z .place)) ∙ ap (queryAnswer w kept) (z .is) ∙ ap (leafAnswer s w kept) (query-ahead e (follows s (p + 1) h))
+        ap (Header.Found (commandNumber w) true kept x) (sym (z .place)) ∙ ap (queryAnswer w kept) (z .is) ∙ ap (leafAnswer s w kept) (query-ahead e (follows s (p + 1) h))
 
-    found : (q : Bool) → standsAt 63 s p ≡ q → Halted s (afterByte 63 s p) x n → header.Found (commandNumber w) q kept x n ≡ leafAnswer s w kept (aheadAt s p common)
+    found : (q : Bool) → standsAt 63 s p ≡ q → Halted s (afterByte 63 s p) x n → Header.Found (commandNumber w) q kept x n ≡ leafAnswer s w kept (aheadAt s p common)
     unfolding afterByte
     found true e h = query-found e (rw e at h)
     found false e h = plain-found (rw e at h)
 
   module _ (w kept c : ℕ) (ec : c ≡ commandNumber w) (q : Bool) (eq : q ≡ standsAt 63 s p) (at : ℕ) (ea : at ≡ afterByte 63 s p) where
-    closes : (x : Stop) (n : ℕ) → Halted s at x n → header.Found c q kept x n ≡ leafAnswer s w kept (aheadAt s p common)
+    closes : (x : Stop) (n : ℕ) → Halted s at x n → Header.Found c q kept x n ≡ leafAnswer s w kept (aheadAt s p common)
     closes x n h = rw ec (found w kept q (sym eq) (rw ea at h))
 
-    pub text-closes′ : length s ≤ at → header.Found c q kept stop.Text at ≡ leafAnswer s w kept (aheadAt s p common)
-    text-closes′ h = closes stop.Text at (text h)
+    pub text-closes′ : length s ≤ at → Header.Found c q kept Stop.Text at ≡ leafAnswer s w kept (aheadAt s p common)
+    text-closes′ h = closes Stop.Text at (text h)
 
     module _ (h : at < length s) (n : ℕ) (en : n ≡ runEnd isWhiteSpace s (at + 1)) where
-      pub space-closes′ : getD s at 0 ≡ 32 → header.Found c q kept stop.Separator n ≡ leafAnswer s w kept (aheadAt s p common)
+      pub space-closes′ : getD s at 0 ≡ 32 → Header.Found c q kept Stop.Separator n ≡ leafAnswer s w kept (aheadAt s p common)
       unfolding isWhiteSpace
-      space-closes′ e = rw (en ∙ sym (run-more isWhiteSpace s at h (rw e))) (closes stop.Separator (runEnd isWhiteSpace s at) (space h e))
+      space-closes′ e = rw (en ∙ sym (run-more isWhiteSpace s at h (rw e))) (closes Stop.Separator (runEnd isWhiteSpace s at) (space h e))
 
-      pub unit-closes′ : getD s at 0 ≡ 59 → header.Found c q kept stop.Unit n ≡ leafAnswer s w kept (aheadAt s p common)
-      unit-closes′ e = rw en (closes stop.Unit (runEnd isWhiteSpace s (at + 1)) (semicolon h e))
+      pub unit-closes′ : getD s at 0 ≡ 59 → Header.Found c q kept Stop.Unit n ≡ leafAnswer s w kept (aheadAt s p common)
+      unit-closes′ e = rw en (closes Stop.Unit (runEnd isWhiteSpace s (at + 1)) (semicolon h e))
 
   pub other-closes′ : (w kept : ℕ) (x : Seen) → x ≡ aheadAt s p common → (r : Header) → r ≡ leafAnswer s w kept x → r ≡ leafAnswer s w kept (aheadAt s p common)
   other-closes′ w kept x e r h = h ∙ ap (leafAnswer s w kept) e
@@ -144,15 +137,15 @@ unfolding turnOf
 ending-turn s y e = go (y .ahead) e
   where
     go : (a : Ahead) → isEnding a ≡ true → atBranch s (y .state) a ≡ turn.Stop
-    go (ahead.Stop x) f = refl
-    go ahead.Query f = refl
-    go (ahead.Word w) f = absurd (false≢true f)
-    go ahead.Colon f = absurd (false≢true f)
-    go (ahead.Refused c) f = absurd (false≢true f)
+    go (Ahead.Stop x) f = refl
+    go Ahead.Query f = refl
+    go (Ahead.Word w) f = absurd (false≢true f)
+    go Ahead.Colon f = absurd (false≢true f)
+    go (Ahead.Refused c) f = absurd (false≢true f)
 
 pub ending-refused : (a : Ahead) → isEnding a ≡ true → undefined ≡ refusedBy a
-ending-refused (ahead.Stop x) f = refl
-ending-refused ahead.Query f = refl
-ending-refused (ahead.Word w) f = refl
-ending-refused ahead.Colon f = absurd (false≢true f)
-ending-refused (ahead.Refused c) f = absurd (false≢true f)
+ending-refused (Ahead.Stop x) f = refl
+ending-refused Ahead.Query f = refl
+ending-refused (Ahead.Word w) f = refl
+ending-refused Ahead.Colon f = absurd (false≢true f)
+ending-refused (Ahead.Refused c) f = absurd (false≢true f)

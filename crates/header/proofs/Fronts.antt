@@ -10,44 +10,25 @@ use lib.ListN.{length, getD, take, drop}
 use borrow.Author.Needs.{needs}
 use borrow.Author.Tests.{le-leb, not-true, not-false}
 use Rattle.error.specs.declared.ErrorCode.{ErrorCode}
-use Rattle.error.specs.declared.ErrorCode.the-variants as refusal
 use Rattle.kind.specs.Class.{isLetter, isCapital, isSmall, inMnemonic}
 use Rattle.kind.proofs.Tests.{by-test, clash, less-or-not}
 use Rattle.util.specs.Run.{runEnd, standsAt}
-use Rattle.node.specs.Word.{isBranch}
-use Rattle.node.specs.Tree.{branch}
+use Rattle.node.specs.{Word.isBranch, Tree.branch}
 use Rattle.node.proofs.Laws.{past-table}
-use Rattle.token.specs.View.{partOf, viewOf}
-use Rattle.token.specs.declared.View.{View}
-use Rattle.token.specs.declared.Token.{Token}
-use Rattle.item.specs.Word.{starEnd, mnemonic}
-use Rattle.item.specs.Follow.{token, refused}
-use Rattle.item.proofs.Accepted.{run-most}
-use Rattle.item.specs.declared.Read.{Read}
-use Rattle.item.specs.declared.Read.the-variants as read
-use Rattle.token.specs.declared.Token.the-variants.{ProgramMnemonic}
-use Rattle.tokenizer.specs.Step.{stateOf}
-use Rattle.tokenizer.specs.declared.State.{State}
-use Rattle.ahead.specs.Seen.{seenWith, seenAt}
-use Rattle.ahead.specs.declared.Stop.{Stop}
-use Rattle.ahead.specs.declared.Stop.the-variants as stop
-use Rattle.ahead.specs.declared.Ahead.{Ahead}
-use Rattle.ahead.specs.declared.Ahead.the-variants as ahead
-use Rattle.ahead.specs.declared.Seen.{Seen}
+use Rattle.token.specs.{View.partOf, View.viewOf, declared.View.View, declared.Token.Token, declared.Token.the-variants.ProgramMnemonic}
+use Rattle.item.specs.{Word.starEnd, Word.mnemonic, Follow.token, Follow.refused, declared.Read.Read}
+use Rattle.forms.proofs.ItemAccepted.{run-most}
+use Rattle.tokenizer.specs.{Step.stateOf, declared.State.State}
+use Rattle.ahead.specs.{Seen.seenWith, Seen.seenAt, declared.Stop.Stop, declared.Ahead.Ahead, declared.Seen.Seen}
 use Rattle.spoken.specs.Spoken.{letterAt}
 use Rattle.header.specs.Header.{undefined, behindQuery, queryAnswer, atLeaf, leafAnswer, atBranch, turnOf, Reads, leaf, keeping, Begins, no-branch, first-refused, no-header, no-question, from-root, common, from-branch}
 use Rattle.header.specs.Header as headers
 use Rattle.header.specs.Internal.{aheadAt, begins, goesOn, frontOf, keptBy, refusedBy, bare, Arrives, arrives, strays, RootLeaf, root-leaf, root-branch, Empty, found, not-found, Otherwise}
-use Rattle.header.specs.declared.Front.{Front}
-use Rattle.header.specs.declared.Front.the-variants as front
-use Rattle.header.specs.declared.Header.{Header}
-use Rattle.header.specs.declared.Header.the-variants as header
+use Rattle.header.specs.{declared.Front.Front, declared.Header.Header}
 use Rattle.header.proofs.Places.{inside, there, stands, letter-there}
 use Rattle.header.proofs.Mnemonics.{isToken, met, refused-ahead, word-ahead, letter-next, colon-ahead, star-refused, star-word}
-use Rattle.header.proofs.Settled.{settles, lost}
+use Rattle.header.proofs.{Settled.settles, Settled.lost, Walks.some-byte, Once.one-reading}
 use Rattle.header.proofs.Inverse.{no-mnemonic, last-colon, colon-place}
-use Rattle.header.proofs.Walks.{some-byte}
-use Rattle.header.proofs.Once.{one-reading}
 
 -- the branch of a leaf's answer is the one that it is asked to keep
 kept-leaf : (s : List ℕ) (w g b : ℕ) (y : Seen) → keeping b (leafAnswer s w g y) ≡ leafAnswer s w b y
@@ -55,25 +36,25 @@ unfolding leafAnswer queryAnswer
 kept-leaf s w g b y = go (y .ahead)
   where
     after : (st : State) (a : Ahead) → keeping b (behindQuery w g st a) ≡ behindQuery w b st a
-    after st (ahead.Stop x) = refl
-    after st (ahead.Refused e) = refl
-    after st ahead.Query = refl
-    after st (ahead.Word v) = refl
-    after st ahead.Colon = refl
+    after st (Ahead.Stop x) = refl
+    after st (Ahead.Refused e) = refl
+    after st Ahead.Query = refl
+    after st (Ahead.Word v) = refl
+    after st Ahead.Colon = refl
 
     go : (a : Ahead) → keeping b (atLeaf s w g (y .state) a) ≡ atLeaf s w b (y .state) a
-    go (ahead.Stop x) = refl
-    go (ahead.Refused e) = refl
-    go ahead.Query = after ((seenAt s (y .state)) .state) ((seenAt s (y .state)) .ahead)
-    go (ahead.Word v) = refl
-    go ahead.Colon = refl
+    go (Ahead.Stop x) = refl
+    go (Ahead.Refused e) = refl
+    go Ahead.Query = after ((seenAt s (y .state)) .state) ((seenAt s (y .state)) .ahead)
+    go (Ahead.Word v) = refl
+    go Ahead.Colon = refl
 
 kept-refusal : (b : ℕ) (a : Ahead) → keeping b (refusedBy a) ≡ refusedBy a
-kept-refusal b (ahead.Refused e) = refl
-kept-refusal b (ahead.Stop x) = refl
-kept-refusal b ahead.Query = refl
-kept-refusal b (ahead.Word v) = refl
-kept-refusal b ahead.Colon = refl
+kept-refusal b (Ahead.Refused e) = refl
+kept-refusal b (Ahead.Stop x) = refl
+kept-refusal b Ahead.Query = refl
+kept-refusal b (Ahead.Word v) = refl
+kept-refusal b Ahead.Colon = refl
 
 -- a mnemonic that a letter begins has no star
 
@@ -115,28 +96,28 @@ module _ (s : List ℕ) (p : ℕ) (w : standsAt 42 s p ≡ true) where
       go zero z = absurd (omega (arith, z))
       go (suc n) z = star-first n p s w
 
-  star-inside : (k : Token) (next : ℕ) → mnemonic s p ≡ read.Token k next → next ≤ length s
+  star-inside : (k : Token) (next : ℕ) → mnemonic s p ≡ Read.Token k next → next ≤ length s
   unfolding mnemonic starEnd
   star-inside k next e = go (leb (runEnd inMnemonic s (starEnd s p) - p) 12) e
     where
       nextIn : Read → ℕ
-      nextIn (read.Token k n) = n
-      nextIn (read.Refused c) = 0
+      nextIn (Read.Token k n) = n
+      nextIn (Read.Refused c) = 0
 
       high : runEnd inMnemonic s (starEnd s p) ≤ length s
       high = rw w (run-most s inMnemonic (p + 1) (omega (arith, inside s p 42 w)))
 
-      go : (b : Bool) → cond b (token (ProgramMnemonic (viewOf p (runEnd inMnemonic s (starEnd s p)))) (runEnd inMnemonic s (starEnd s p))) (refused refusal.ProgramMnemonicTooLong) ≡ read.Token k next
+      go : (b : Bool) → cond b (token (ProgramMnemonic (viewOf p (runEnd inMnemonic s (starEnd s p)))) (runEnd inMnemonic s (starEnd s p))) (refused ErrorCode.ProgramMnemonicTooLong) ≡ Read.Token k next
           → next ≤ length s
       go true f = rw (← ap nextIn f) high
       go false f = absurd (false≢true (ap isToken f))
 
 -- a token that is refused refuses the header, at a leaf too
-from-refused : (t names s : List ℕ) (h n : ℕ) (seen : Seen) (e : ErrorCode) → seen .ahead ≡ ahead.Refused e → Reads t names s h n seen (header.Refused e)
+from-refused : (t names s : List ℕ) (h n : ℕ) (seen : Seen) (e : ErrorCode) → seen .ahead ≡ Ahead.Refused e → Reads t names s h n seen (Header.Refused e)
 unfolding leafAnswer turnOf
 from-refused t names s h n seen e q = go (branch t n) refl
   where
-    go : (c : Bool) → branch t n ≡ c → Reads t names s h n seen (header.Refused e)
+    go : (c : Bool) → branch t n ≡ c → Reads t names s h n seen (Header.Refused e)
     go true m = headers.refused m (ap (atBranch s (seen .state)) q)
     go false m =
         let there : Reads t names s h n seen (leafAnswer s (getD t n 0) h seen) = leaf m in
@@ -150,8 +131,8 @@ data Begun (s : List ℕ) (b at : ℕ) : ℕ → ℕ → Bool → Type 0 where
   star : standsAt 42 s at ≡ true → Begun s b at 0 at true
 
 abbrev Fits : List ℕ → ℕ → ℕ → Front → Type 0
-Fits s b at (front.From n p c) = Begun s b at n p c
-Fits s b at front.Other = bare s at ≡ true
+Fits s b at (Front.From n p c) = Begun s b at n p c
+Fits s b at Front.Other = bare s at ≡ true
 
 fits : (s : List ℕ) (b at : ℕ) → Fits s b at (frontOf s b at)
 unfolding frontOf bare
@@ -164,13 +145,13 @@ module _ (s : List ℕ) (b at : ℕ) (f : Front) (ef : f ≡ frontOf s b at) whe
   fit : (x : Front) → f ≡ x → Fits s b at x
   fit x q = subst (Fits s b at) (sym ef ∙ q) (fits s b at)
 
-  pub is-bare′ : f ≡ front.Other → bare s at ≡ true
-  is-bare′ q = fit front.Other q
+  pub is-bare′ : f ≡ Front.Other → bare s at ≡ true
+  is-bare′ q = fit Front.Other q
 
-  is-begun : (n p : ℕ) (c : Bool) → f ≡ front.From n p c → Begun s b at n p c
-  is-begun n p c q = fit (front.From n p c) q
+  is-begun : (n p : ℕ) (c : Bool) → f ≡ Front.From n p c → Begun s b at n p c
+  is-begun n p c q = fit (Front.From n p c) q
 
-  pub begins′ : (n p : ℕ) (c : Bool) → f ≡ front.From n p c → begins c s p ≡ true
+  pub begins′ : (n p : ℕ) (c : Bool) → f ≡ Front.From n p c → begins c s p ≡ true
   begins′ n p c q = go (is-begun n p c q)
     where
       go : {n p : ℕ} {c : Bool} → Begun s b at n p c → begins c s p ≡ true
@@ -191,10 +172,10 @@ module _ (t names s : List ℕ) (b at : ℕ) (held : branch t b ≡ true) where
   begun-letter {r} w o = go (mnemonic s at) refl
     where
       go : (x : Read) → mnemonic s at ≡ x → Begins t names s b (aheadAt s at false) r
-      go (read.Token k next) q =
+      go (Read.Token k next) q =
           from-branch held (sym (ap (λ (y : Seen). y .ahead) (word-ahead s at false (met s at false w) k next q))) (no-star s at (letter-there s at w .1) next) (o b)
-      go (read.Refused e) q =
-          let a : aheadAt s at false .ahead ≡ ahead.Refused e = sym (ap (λ (y : Seen). y .ahead) (refused-ahead s at false (met s at false w) e q)) in
+      go (Read.Refused e) q =
+          let a : aheadAt s at false .ahead ≡ Ahead.Refused e = sym (ap (λ (y : Seen). y .ahead) (refused-ahead s at false (met s at false w) e q)) in
           rw (one-reading (o b) (from-refused t names s b b (aheadAt s at false) e a)) (first-refused held a)
 
   begun-colon : {r : Header} → goesOn s at ≡ true → ((h : ℕ) → Reads t names s h 0 (aheadAt s (at + 1) false) r) → Begins t names s b (aheadAt s at false) r
@@ -204,12 +185,12 @@ module _ (t names s : List ℕ) (b at : ℕ) (held : branch t b ≡ true) where
   begun-star {r} w o = go (mnemonic s at) refl
     where
       go : (x : Read) → mnemonic s at ≡ x → Begins t names s b (aheadAt s at false) (keeping b r)
-      go (read.Token k next) q =
+      go (Read.Token k next) q =
           let same : aheadAt s at true ≡ aheadAt s at false = sym (star-word s at true w k next q) ∙ star-word s at false w k next q in
           common held (sym (ap (λ (y : Seen). y .ahead) (star-word s at false w k next q))) (star-part s at w next (some-byte s at true w k next q) (star-inside s at w k next q))
           (rw same at (o 0))
-      go (read.Refused e) q =
-          let a : aheadAt s at true .ahead ≡ ahead.Refused e = sym (ap (λ (y : Seen). y .ahead) (star-refused s at true w e q)) in
+      go (Read.Refused e) q =
+          let a : aheadAt s at true .ahead ≡ Ahead.Refused e = sym (ap (λ (y : Seen). y .ahead) (star-refused s at true w e q)) in
           rw (one-reading (o 0) (from-refused t names s 0 0 (aheadAt s at true) e a))
           (first-refused held (sym (ap (λ (y : Seen). y .ahead) (star-refused s at false w e q))))
 
@@ -230,7 +211,7 @@ keep-refusal b a true = kept-refusal b a
 keep-refusal b a false = refl
 
 module _ (t names s : List ℕ) (b at : ℕ) (c : Bool) (ec : c ≡ isBranch (getD t b 0)) where
-  pub no-start′ : not c ≡ true → Begins t names s b (aheadAt s at false) (header.Refused refusal.StartIsNoBranch)
+  pub no-start′ : not c ≡ true → Begins t names s b (aheadAt s at false) (Header.Refused ErrorCode.StartIsNoBranch)
   no-start′ q = no-branch (sym ec ∙ not-true c q)
 
   module _ (q : not c ≡ false) (f : Front) (ef : f ≡ frontOf s b at) where
@@ -238,7 +219,7 @@ module _ (t names s : List ℕ) (b at : ℕ) (c : Bool) (ec : c ≡ isBranch (ge
     unfolding Otherwise
     other′ r o = o names b (sym ec ∙ not-false c q)
 
-    module _ (n p : ℕ) (star : Bool) (e : f ≡ front.From n p star) (k kept place : ℕ) (d : Bool) (z : Arrives t names s n p star k kept place d) where
+    module _ (n p : ℕ) (star : Bool) (e : f ≡ Front.From n p star) (k kept place : ℕ) (d : Bool) (z : Arrives t names s n p star k kept place d) where
       answered : {r : Header} → ((h : ℕ) → Reads t names s h n (aheadAt s p star) r) → Begins t names s b (aheadAt s at false) (keepingIf star b r)
       answered o = begun t names s b at (sym ec ∙ not-false c q) (is-begun s b at f ef n p star e) o
 
@@ -283,8 +264,8 @@ no-branch′ t names s n at c w b e q kept = strays go
         along i j = rw (sym (ap (leafAnswer s (getD t n 0) h) i) ∙ j ∙ ap (λ (y : Seen). refusedBy (y .ahead)) i) at there
 
         by : (x : Read) → mnemonic s at ≡ x → Reads t names s h n (aheadAt s at c) (refusedBy (aheadAt s at c .ahead))
-        by (read.Token k next) f = along (word-ahead s at c (met s at c w) k next f) refl
-        by (read.Refused o) f = along (refused-ahead s at c (met s at c w) o f) refl
+        by (Read.Token k next) f = along (word-ahead s at c (met s at c w) k next f) refl
+        by (Read.Refused o) f = along (refused-ahead s at c (met s at c w) o f) refl
 
 pub is-branch′ : (t : List ℕ) (n : ℕ) (b : Bool) → b ≡ isBranch (getD t n 0) → not b ≡ false → branch t n ≡ true
 is-branch′ t n b e q = sym e ∙ not-false b q
@@ -308,27 +289,27 @@ module _ (s : List ℕ) (at : ℕ) (e : bare s at ≡ true) where
     is-ahead : {a : Ahead} → x .ahead ≡ a → aheadAt s at false .ahead ≡ a
     is-ahead q = ap (λ (y : Seen). y .ahead) (sym ex) ∙ q
 
-    pub none-refused′ : (c : ErrorCode) → x .ahead ≡ ahead.Refused c → Otherwise t s at (header.Refused c)
+    pub none-refused′ : (c : ErrorCode) → x .ahead ≡ Ahead.Refused c → Otherwise t s at (Header.Refused c)
     unfolding Otherwise
     none-refused′ c q names b m = first-refused m (is-ahead q)
 
-    pub none-stop′ : (y : Stop) → x .ahead ≡ ahead.Stop y → Otherwise t s at (header.Refused refusal.SyntaxError)
+    pub none-stop′ : (y : Stop) → x .ahead ≡ Ahead.Stop y → Otherwise t s at (Header.Refused ErrorCode.SyntaxError)
     unfolding Otherwise
     none-stop′ y q names b m = no-header m (is-ahead q)
 
-    pub none-query′ : x .ahead ≡ ahead.Query → Otherwise t s at (header.Refused refusal.SyntaxError)
+    pub none-query′ : x .ahead ≡ Ahead.Query → Otherwise t s at (Header.Refused ErrorCode.SyntaxError)
     unfolding Otherwise
     none-query′ q names b m = no-question m (is-ahead q)
 
-    pub none-word′ : (v : View) → x .ahead ≡ ahead.Word v → Otherwise t s at (header.Refused refusal.SyntaxError)
+    pub none-word′ : (v : View) → x .ahead ≡ Ahead.Word v → Otherwise t s at (Header.Refused ErrorCode.SyntaxError)
     none-word′ v q = no-mnemonic s at false (bare-parts .0) (bare-parts .2) (is-ahead q)
 
-    module _ (q : x .ahead ≡ ahead.Colon) where
-      last : (length s ≤ at + 1) × (seenWith (ahead.Stop stop.Text) (stateOf (at + 1) true false) ≡ seenAt s (aheadAt s at false .state))
+    module _ (q : x .ahead ≡ Ahead.Colon) where
+      last : (length s ≤ at + 1) × (seenWith (Ahead.Stop Stop.Text) (stateOf (at + 1) true false) ≡ seenAt s (aheadAt s at false .state))
       last = last-colon s at false (is-ahead q) (bare-parts .1)
 
       -- the end of the text is there, at the place after the colon
-      ends : (p : ℕ) → p ≡ x .state .place → seenWith (ahead.Stop stop.Text) (stateOf p true false) ≡ seenAt s (aheadAt s at false .state)
+      ends : (p : ℕ) → p ≡ x .state .place → seenWith (Ahead.Stop Stop.Text) (stateOf p true false) ≡ seenAt s (aheadAt s at false .state)
       ends p ep =
           let z : p ≡ at + 1 = ep ∙ ap (λ (y : Seen). y .state .place) ex ∙ colon-place s at false (is-ahead q) in
           rw z (last .1)
@@ -338,7 +319,7 @@ module _ (s : List ℕ) (at : ℕ) (e : bare s at ≡ true) where
       none-colon′ p ep r o names b m = from-root m (is-ahead q) (rw (ends p ep) at (go o))
         where
           seen : Seen
-          seen = seenWith (ahead.Stop stop.Text) (stateOf p true false)
+          seen = seenWith (Ahead.Stop Stop.Text) (stateOf p true false)
 
           some : b < length t
           some = by (less-or-not b (length t))

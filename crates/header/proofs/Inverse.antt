@@ -10,35 +10,30 @@ use borrow.Author.Tests.{eqb-true, le-leb, lt-leb, not-true}
 use Rattle.kind.specs.Class.{isWhiteSpace, isLetter, inMnemonic}
 use Rattle.kind.specs.Kind.{kindOf, newline, blank, star, colon, question, semicolon, comma, hash, quote, parenthesis, other, beyond, underscore, small, capital}
 use Rattle.kind.proofs.Tests.{by-test, clash, either, or-left, or-right, and-left, and-right, less-or-not}
-use Rattle.kind.proofs.OfKind.{star-is, colon-is, small-letter, capital-letter}
+use Rattle.forms.proofs.OfKind.{star-is, colon-is, small-letter, capital-letter}
 use Rattle.util.specs.Run.{runEnd, standsAt}
-use Rattle.item.specs.Follow.{endsData, followed}
-use Rattle.item.specs.Word.{starEnd, mnemonic}
-use Rattle.item.specs.declared.Read.{Read}
+use Rattle.item.specs.{Follow.endsData, Follow.followed, Word.starEnd, Word.mnemonic, declared.Read.Read}
 use Rattle.enclosed.specs.Expression.{inExpression, bracketed, expressionData}
 use Rattle.separator.specs.Separator.{newlineTo, followsColon, colonTo, followsQuery, questionTo, commaTo}
 use Rattle.separator.specs.declared.Pass.{Pass}
 use Rattle.token.specs.declared.Token.the-variants.{HeaderMnemonicSeparator, HeaderQuerySuffix}
 use Rattle.tokenizer.specs.Step.{stateOf, taken, refusal, ended, readAs, passed, endedBy, newlineBefore, colonBefore, questionBefore, commaBefore, wordAt, outside, byKind, step}
-use Rattle.tokenizer.specs.declared.State.{State}
-use Rattle.tokenizer.specs.declared.Step.{Step}
+use Rattle.tokenizer.specs.{declared.State.State, declared.Step.Step}
 use Rattle.ahead.specs.Seen.{aheadOf, seenWith, seenAt}
 use Rattle.ahead.specs.declared.Stop.the-variants as stop
 use Rattle.ahead.specs.declared.Ahead.{Ahead}
-use Rattle.ahead.specs.declared.Ahead.the-variants as ahead
 use Rattle.spoken.specs.Spoken.{letterAt}
 use Rattle.header.specs.Internal.{aheadAt, goesOn}
-use Rattle.header.proofs.Looks.{end-seen′}
-use Rattle.header.proofs.Places.{stands}
+use Rattle.header.proofs.{Looks.end-seen′, Places.stands}
 
 module _ (s : List ℕ) (p : ℕ) (c : Bool) where
   -- a mnemonic begins with a letter or a star; after a colon there is a letter, or nothing, and the header is no common command's
   abbrev Tells : Ahead → State → Type 0
-  Tells (ahead.Word w) st = (letterAt s p || standsAt 42 s p) ≡ true
-  Tells ahead.Colon st = (st ≡ stateOf (p + 1) true c) × (c ≡ false) × (standsAt 58 s p ≡ true) × (followsColon s (p + 1) ≡ true)
-  Tells ahead.Query st = Unit {0}
-  Tells (ahead.Stop x) st = Unit {0}
-  Tells (ahead.Refused e) st = Unit {0}
+  Tells (Ahead.Word w) st = (letterAt s p || standsAt 42 s p) ≡ true
+  Tells Ahead.Colon st = (st ≡ stateOf (p + 1) true c) × (c ≡ false) × (standsAt 58 s p ≡ true) × (followsColon s (p + 1) ≡ true)
+  Tells Ahead.Query st = Unit {0}
+  Tells (Ahead.Stop x) st = Unit {0}
+  Tells (Ahead.Refused e) st = Unit {0}
 
   abbrev P : Step → Type 0
   P x = Tells (aheadOf (x .answer)) (x .state)
@@ -116,28 +111,28 @@ module _ (s : List ℕ) (p : ℕ) (c : Bool) where
   tells-of x e = subst (λ (y : Ahead). Tells y (aheadAt s p c .state)) e tells
 
   -- where no mnemonic begins, none is ahead
-  pub no-mnemonic : {A : Type 0} {w : _} → letterAt s p ≡ false → standsAt 42 s p ≡ false → aheadAt s p c .ahead ≡ ahead.Word w → A
-  no-mnemonic {w = w} e f q = clash (tells-of (ahead.Word w) q) (rw (e, f))
+  pub no-mnemonic : {A : Type 0} {w : _} → letterAt s p ≡ false → standsAt 42 s p ≡ false → aheadAt s p c .ahead ≡ Ahead.Word w → A
+  no-mnemonic {w = w} e f q = clash (tells-of (Ahead.Word w) q) (rw (e, f))
 
   -- a colon without a letter after it is the last byte of the text
-  pub last-colon : aheadAt s p c .ahead ≡ ahead.Colon → goesOn s p ≡ false
-      → (length s ≤ p + 1) × (seenWith (ahead.Stop stop.Text) (stateOf (p + 1) true c) ≡ seenAt s (aheadAt s p c .state))
+  pub last-colon : aheadAt s p c .ahead ≡ Ahead.Colon → goesOn s p ≡ false
+      → (length s ≤ p + 1) × (seenWith (Ahead.Stop stop.Text) (stateOf (p + 1) true c) ≡ seenAt s (aheadAt s p c .state))
   unfolding goesOn followsColon letterAt
   last-colon q g = by (less-or-not (p + 1) (length s))
     where
       z : (aheadAt s p c .state ≡ stateOf (p + 1) true c) × (c ≡ false) × (standsAt 58 s p ≡ true) × (followsColon s (p + 1) ≡ true)
-      z = tells-of ahead.Colon q
+      z = tells-of Ahead.Colon q
 
       none : letterAt s (p + 1) ≡ false
       none = rw (z .2) at g
 
-      by : (p + 1 < length s) ⊎ (length s ≤ p + 1) → (length s ≤ p + 1) × (seenWith (ahead.Stop stop.Text) (stateOf (p + 1) true c) ≡ seenAt s (aheadAt s p c .state))
+      by : (p + 1 < length s) ⊎ (length s ≤ p + 1) → (length s ≤ p + 1) × (seenWith (Ahead.Stop stop.Text) (stateOf (p + 1) true c) ≡ seenAt s (aheadAt s p c .state))
       by (inl l) = clash (rw (lt-leb (length s) (p + 1) l) at (z .3)) (rw (lt-leb (length s) (p + 1) l) at none)
       by (inr l) = (l, end-seen′ s (stateOf (p + 1) true c) _ l refl ∙ ap (seenAt s) (sym (z .0)))
 
   -- and there is none in a common command
-  pub not-common : aheadAt s p c .ahead ≡ ahead.Colon → c ≡ false
-  not-common q = tells-of ahead.Colon q .1
+  pub not-common : aheadAt s p c .ahead ≡ Ahead.Colon → c ≡ false
+  not-common q = tells-of Ahead.Colon q .1
 
-  pub colon-place : aheadAt s p c .ahead ≡ ahead.Colon → aheadAt s p c .state .place ≡ p + 1
-  colon-place q = ap (λ (x : State). x .place) (tells-of ahead.Colon q .0)
+  pub colon-place : aheadAt s p c .ahead ≡ Ahead.Colon → aheadAt s p c .state .place ≡ p + 1
+  colon-place q = ap (λ (x : State). x .place) (tells-of Ahead.Colon q .0)

@@ -9,6 +9,3 @@ pub mod Inverse
 pub mod Walks
 pub mod Fronts
 pub mod Once
-pub mod Some
-pub mod Onward
-pub mod Claims

@@ -6,49 +6,41 @@ use mathlib.Core.Bool.{Bool, true, false}
 use lib.ListN.{length, getD}
 use borrow.Author.Needs.{needs}
 use Rattle.error.specs.declared.ErrorCode.{ErrorCode}
-use Rattle.kind.specs.Class.{isWhiteSpace, isLetter}
-use Rattle.kind.specs.Kind.{kindOf}
+use Rattle.kind.specs.{Class.isWhiteSpace, Class.isLetter, Kind.kindOf}
 use Rattle.util.specs.Run.{runEnd}
 use Rattle.token.specs.declared.Token.{Token}
 use Rattle.token.specs.declared.Token.the-variants.{HeaderMnemonicSeparator, HeaderQuerySuffix, ProgramMessageUnitSeparator, ProgramHeaderSeparator}
-use Rattle.item.specs.Word.{mnemonic}
-use Rattle.item.specs.declared.Read.{Read}
-use Rattle.item.specs.declared.Read.the-variants as read
-use Rattle.separator.specs.Separator.{colonTo, questionTo}
-use Rattle.separator.specs.declared.Pass.{Pass}
-use Rattle.separator.specs.declared.Pass.the-variants as pass
+use Rattle.item.specs.{Word.mnemonic, declared.Read.Read}
+use Rattle.separator.specs.{Separator.colonTo, Separator.questionTo, declared.Pass.Pass}
 use Rattle.tokenizer.specs.Step.{stateOf, inHeader, inCommon, taken, refusal, readAs, passed, step}
-use Rattle.tokenizer.specs.declared.State.{State}
-use Rattle.tokenizer.specs.declared.Step.{Step}
+use Rattle.tokenizer.specs.{declared.State.State, declared.Step.Step}
 use Rattle.tokenizer.specs.declared.Answer.the-variants as answer
 use Rattle.tokenizer.proofs.Steps.{end′, form-token′, form-refused′, pass-to′, pass-refused′, colon-is′, question-is′, word-header′, blank′, star′, colon′, question′, semicolon′, letter′}
 use Rattle.ahead.specs.Seen.{tokenAhead, seenWith, seenOf, seenAt}
 use Rattle.ahead.specs.declared.Stop.the-variants as stop
-use Rattle.ahead.specs.declared.Ahead.{Ahead}
-use Rattle.ahead.specs.declared.Ahead.the-variants as ahead
-use Rattle.ahead.specs.declared.Seen.{Seen}
+use Rattle.ahead.specs.{declared.Ahead.Ahead, declared.Seen.Seen}
 
 pub taken-is′ : (t : Token) (next : ℕ) (header common : Bool) (a : Ahead) → a ≡ tokenAhead t → seenWith a (stateOf next header common) ≡ seenOf (taken t next header common)
 unfolding taken
 taken-is′ t next header common a e = rw e
 
 module _ (s : List ℕ) (st : State) where
-  pub refusal-is′ : (e : ErrorCode) → seenWith (ahead.Refused e) (stateOf (length s) (inHeader st) (inCommon st)) ≡ seenOf (refusal s st e)
+  pub refusal-is′ : (e : ErrorCode) → seenWith (Ahead.Refused e) (stateOf (length s) (inHeader st) (inCommon st)) ≡ seenOf (refusal s st e)
   unfolding refusal
   refusal-is′ e = refl
 
   module _ (x : Seen) where
-    pub read-token′ : (r : Read) (t : Token) (next : ℕ) → r ≡ read.Token t next → (common : Bool) → x ≡ seenOf (taken t next (inHeader st) common) → x ≡ seenOf (readAs s st common r)
+    pub read-token′ : (r : Read) (t : Token) (next : ℕ) → r ≡ Read.Token t next → (common : Bool) → x ≡ seenOf (taken t next (inHeader st) common) → x ≡ seenOf (readAs s st common r)
     read-token′ r t next e common ex = ex ∙ ap seenOf (form-token′ s st r t next e (inHeader st) common refl (taken t next (inHeader st) common) refl)
 
-    pub read-refused′ : (r : Read) (common : Bool) (e : ErrorCode) → r ≡ read.Refused e → x ≡ seenOf (refusal s st e) → x ≡ seenOf (readAs s st common r)
+    pub read-refused′ : (r : Read) (common : Bool) (e : ErrorCode) → r ≡ Read.Refused e → x ≡ seenOf (refusal s st e) → x ≡ seenOf (readAs s st common r)
     read-refused′ r common e q ex = ex ∙ ap seenOf (form-refused′ s st r common e q (refusal s st e) refl)
 
     module _ (p : Pass) (t : Token) (header : Bool) where
-      pub passed-to′ : (next : ℕ) → p ≡ pass.To next → x ≡ seenOf (taken t next header (inCommon st)) → x ≡ seenOf (passed s st t header p)
+      pub passed-to′ : (next : ℕ) → p ≡ Pass.To next → x ≡ seenOf (taken t next header (inCommon st)) → x ≡ seenOf (passed s st t header p)
       passed-to′ next e ex = ex ∙ ap seenOf (pass-to′ s st p t header (taken t next header (inCommon st)) next e refl)
 
-      pub passed-refused′ : (e : ErrorCode) → p ≡ pass.Refused e → x ≡ seenOf (refusal s st e) → x ≡ seenOf (passed s st t header p)
+      pub passed-refused′ : (e : ErrorCode) → p ≡ Pass.Refused e → x ≡ seenOf (refusal s st e) → x ≡ seenOf (passed s st t header p)
       passed-refused′ e q ex = ex ∙ ap seenOf (pass-refused′ s st p t header (refusal s st e) e q refl)
 
 pub ruleset parts = (needs, taken-is′, refusal-is′, read-token′, read-refused′, passed-to′, passed-refused′)
@@ -59,7 +51,7 @@ module _ (s : List ℕ) (st : State) (x : Seen) where
   unfolding seenAt
   seen-step y e ex = ex ∙ ap seenOf e
 
-  pub end-seen′ : length s ≤ st .place → x ≡ seenWith (ahead.Stop stop.Text) st → x ≡ seenAt s st
+  pub end-seen′ : length s ≤ st .place → x ≡ seenWith (Ahead.Stop stop.Text) st → x ≡ seenAt s st
   end-seen′ h ex = seen-step (record { answer = answer.End; state = st }) (end′ s st h) ex
 
   module _ (h : st .place < length s) where

@@ -6,17 +6,12 @@ use mathlib.Core.Bool.{Bool, true, false, cond, _&&_, false≢true}
 use lib.Dec.{leb}
 use lib.ListN.{length, getD}
 use Rattle.error.specs.declared.ErrorCode.{ErrorCode}
-use Rattle.error.specs.declared.ErrorCode.the-variants as refusal
 use Rattle.kind.specs.Class.{isLetter, inMnemonic}
 use Rattle.kind.proofs.Tests.{and-left, and-right, or-right}
 use Rattle.util.specs.Run.{runEnd, standsAt}
-use Rattle.token.specs.View.{viewOf}
-use Rattle.token.specs.declared.Token.{Token}
+use Rattle.token.specs.{View.viewOf, declared.Token.Token}
 use Rattle.token.specs.declared.Token.the-variants.{ProgramMnemonic, HeaderMnemonicSeparator}
-use Rattle.item.specs.Follow.{token, refused}
-use Rattle.item.specs.Word.{starEnd, mnemonic}
-use Rattle.item.specs.declared.Read.{Read}
-use Rattle.item.specs.declared.Read.the-variants as read
+use Rattle.item.specs.{Follow.token, Follow.refused, Word.starEnd, Word.mnemonic, declared.Read.Read}
 use Rattle.separator.specs.Separator.{followsColon, colonTo}
 use Rattle.separator.specs.declared.Pass.the-variants as pass
 use Rattle.tokenizer.specs.Step.{stateOf, readAs}
@@ -31,23 +26,23 @@ use Rattle.header.proofs.Looks.{taken-is′, refusal-is′, read-token�
 use Rattle.header.proofs.Places.{inside, there, letter-there}
 
 abbrev pub tokenIn : Read → Token
-tokenIn (read.Token t next) = t
-tokenIn (read.Refused e) = HeaderMnemonicSeparator
+tokenIn (Read.Token t next) = t
+tokenIn (Read.Refused e) = HeaderMnemonicSeparator
 
 abbrev pub isToken : Read → Bool
-isToken (read.Token t next) = true
-isToken (read.Refused e) = false
+isToken (Read.Token t next) = true
+isToken (Read.Refused e) = false
 
 -- what is read as a mnemonic is the view from its place on
-pub mnemonic-read : (s : List ℕ) (p : ℕ) (t : Token) (next : ℕ) → mnemonic s p ≡ read.Token t next → ProgramMnemonic (viewOf p next) ≡ t
+pub mnemonic-read : (s : List ℕ) (p : ℕ) (t : Token) (next : ℕ) → mnemonic s p ≡ Read.Token t next → ProgramMnemonic (viewOf p next) ≡ t
 unfolding mnemonic
 mnemonic-read s p t next e = go (leb (runEnd inMnemonic s (starEnd s p) - p) 12) e
   where
     nextIn : Read → ℕ
-    nextIn (read.Token k n) = n
-    nextIn (read.Refused c) = 0
+    nextIn (Read.Token k n) = n
+    nextIn (Read.Refused c) = 0
 
-    go : (b : Bool) → cond b (token (ProgramMnemonic (viewOf p (runEnd inMnemonic s (starEnd s p)))) (runEnd inMnemonic s (starEnd s p))) (refused refusal.ProgramMnemonicTooLong) ≡ read.Token t next
+    go : (b : Bool) → cond b (token (ProgramMnemonic (viewOf p (runEnd inMnemonic s (starEnd s p)))) (runEnd inMnemonic s (starEnd s p))) (refused ErrorCode.ProgramMnemonicTooLong) ≡ Read.Token t next
         → ProgramMnemonic (viewOf p next) ≡ t
     go true f = ap (λ (n : ℕ). ProgramMnemonic (viewOf p n)) (sym (ap nextIn f)) ∙ ap tokenIn f
     go false f = absurd (false≢true (ap isToken f))
@@ -65,23 +60,23 @@ met s p true w x ex = star-seen′ s (stateOf p true true) x (inside s p 42 w) (
 met s p false w x ex = letter-met s p false w x ex
 
 module _ (s : List ℕ) (p : ℕ) (c : Bool) (m : Met s p c) where
-  pub refused-ahead : (e : ErrorCode) → mnemonic s p ≡ read.Refused e → seenWith (ahead.Refused e) (stateOf (length s) true c) ≡ aheadAt s p c
+  pub refused-ahead : (e : ErrorCode) → mnemonic s p ≡ Read.Refused e → seenWith (ahead.Refused e) (stateOf (length s) true c) ≡ aheadAt s p c
   refused-ahead e q =
       let x : Seen = seenWith (ahead.Refused e) (stateOf (length s) true c) in
       m x (read-refused′ s (stateOf p true c) x (mnemonic s p) c e q (refusal-is′ s (stateOf p true c) e))
 
-  pub word-ahead : (k : Token) (next : ℕ) → mnemonic s p ≡ read.Token k next → seenWith (ahead.Word (viewOf p next)) (stateOf next true c) ≡ aheadAt s p c
+  pub word-ahead : (k : Token) (next : ℕ) → mnemonic s p ≡ Read.Token k next → seenWith (ahead.Word (viewOf p next)) (stateOf next true c) ≡ aheadAt s p c
   word-ahead k next q =
       let x : Seen = seenWith (ahead.Word (viewOf p next)) (stateOf next true c) in
       m x
       (read-token′ s (stateOf p true c) x (mnemonic s p) k next q c
       (taken-is′ k next true c (ahead.Word (viewOf p next)) (ap tokenAhead (mnemonic-read s p k next q))))
 
-  pub turn-refused : (e : ErrorCode) → mnemonic s p ≡ read.Refused e → turnOf s (aheadAt s p c) ≡ turn.Refused e
+  pub turn-refused : (e : ErrorCode) → mnemonic s p ≡ Read.Refused e → turnOf s (aheadAt s p c) ≡ turn.Refused e
   unfolding turnOf
   turn-refused e q = sym (ap (turnOf s) (refused-ahead e q))
 
-  pub turn-word : (k : Token) (next : ℕ) → mnemonic s p ≡ read.Token k next → turnOf s (aheadAt s p c) ≡ turn.Word (viewOf p next) (stateOf next true c)
+  pub turn-word : (k : Token) (next : ℕ) → mnemonic s p ≡ Read.Token k next → turnOf s (aheadAt s p c) ≡ turn.Word (viewOf p next) (stateOf next true c)
   unfolding turnOf
   turn-word k next q = sym (ap (turnOf s) (word-ahead k next q))
 
@@ -91,8 +86,8 @@ unfolding behindColon turnOf
 after-colon s p w = go (mnemonic s p) refl
   where
     go : (x : Read) → mnemonic s p ≡ x → behindColon (aheadAt s p false) ≡ turnOf s (aheadAt s p false)
-    go (read.Token k next) q = sym (ap behindColon (word-ahead s p false (letter-met s p false w) k next q)) ∙ ap (turnOf s) (word-ahead s p false (letter-met s p false w) k next q)
-    go (read.Refused e) q = sym (ap behindColon (refused-ahead s p false (letter-met s p false w) e q)) ∙ ap (turnOf s) (refused-ahead s p false (letter-met s p false w) e q)
+    go (Read.Token k next) q = sym (ap behindColon (word-ahead s p false (letter-met s p false w) k next q)) ∙ ap (turnOf s) (word-ahead s p false (letter-met s p false w) k next q)
+    go (Read.Refused e) q = sym (ap behindColon (refused-ahead s p false (letter-met s p false w) e q)) ∙ ap (turnOf s) (refused-ahead s p false (letter-met s p false w) e q)
 
 module _ (s : List ℕ) (p : ℕ) (g : goesOn s p ≡ true) where
   pub colon-there : standsAt 58 s p ≡ true
@@ -120,12 +115,12 @@ module _ (s : List ℕ) (p : ℕ) (c : Bool) (w : standsAt 42 s p ≡ true) wher
   star-met : (x : Seen) → x ≡ seenOf (readAs s (stateOf p true c) true (mnemonic s p)) → x ≡ aheadAt s p c
   star-met x ex = star-seen′ s (stateOf p true c) x (inside s p 42 w) (there s p 42 w) (mnemonic s p) refl ex
 
-  pub star-refused : (e : ErrorCode) → mnemonic s p ≡ read.Refused e → seenWith (ahead.Refused e) (stateOf (length s) true c) ≡ aheadAt s p c
+  pub star-refused : (e : ErrorCode) → mnemonic s p ≡ Read.Refused e → seenWith (ahead.Refused e) (stateOf (length s) true c) ≡ aheadAt s p c
   star-refused e q =
       let x : Seen = seenWith (ahead.Refused e) (stateOf (length s) true c) in
       star-met x (read-refused′ s (stateOf p true c) x (mnemonic s p) true e q (refusal-is′ s (stateOf p true c) e))
 
-  pub star-word : (k : Token) (next : ℕ) → mnemonic s p ≡ read.Token k next → seenWith (ahead.Word (viewOf p next)) (stateOf next true true) ≡ aheadAt s p c
+  pub star-word : (k : Token) (next : ℕ) → mnemonic s p ≡ Read.Token k next → seenWith (ahead.Word (viewOf p next)) (stateOf next true true) ≡ aheadAt s p c
   star-word k next q =
       let x : Seen = seenWith (ahead.Word (viewOf p next)) (stateOf next true true) in
       star-met x
@@ -137,17 +132,17 @@ unfolding turnOf
 star-turn s p c w = go (mnemonic s p) refl
   where
     go : (x : Read) → mnemonic s p ≡ x → turnOf s (aheadAt s p c) ≡ turnOf s (aheadAt s p true)
-    go (read.Token k next) q = sym (ap (turnOf s) (star-word s p c w k next q)) ∙ ap (turnOf s) (star-word s p true w k next q)
-    go (read.Refused e) q = sym (ap (turnOf s) (star-refused s p c w e q)) ∙ ap (turnOf s) (star-refused s p true w e q)
+    go (Read.Token k next) q = sym (ap (turnOf s) (star-word s p c w k next q)) ∙ ap (turnOf s) (star-word s p true w k next q)
+    go (Read.Refused e) q = sym (ap (turnOf s) (star-refused s p c w e q)) ∙ ap (turnOf s) (star-refused s p true w e q)
 
 -- a colon in a common command is refused
-pub colon-refused : (s : List ℕ) (p : ℕ) → goesOn s p ≡ true → seenWith (ahead.Refused refusal.InvalidSeparator) (stateOf (length s) true true) ≡ aheadAt s p true
+pub colon-refused : (s : List ℕ) (p : ℕ) → goesOn s p ≡ true → seenWith (ahead.Refused ErrorCode.InvalidSeparator) (stateOf (length s) true true) ≡ aheadAt s p true
 unfolding colonTo
 colon-refused s p g =
-    let x : Seen = seenWith (ahead.Refused refusal.InvalidSeparator) (stateOf (length s) true true) in
-    colon-seen′ s (stateOf p true true) x (inside s p 58 (colon-there s p g)) (pass.Refused refusal.InvalidSeparator) (there s p 58 (colon-there s p g)) (go (followsColon s (p + 1)))
-    (passed-refused′ s (stateOf p true true) x (pass.Refused refusal.InvalidSeparator) HeaderMnemonicSeparator true refusal.InvalidSeparator refl (refusal-is′ s (stateOf p true true) refusal.InvalidSeparator))
+    let x : Seen = seenWith (ahead.Refused ErrorCode.InvalidSeparator) (stateOf (length s) true true) in
+    colon-seen′ s (stateOf p true true) x (inside s p 58 (colon-there s p g)) (pass.Refused ErrorCode.InvalidSeparator) (there s p 58 (colon-there s p g)) (go (followsColon s (p + 1)))
+    (passed-refused′ s (stateOf p true true) x (pass.Refused ErrorCode.InvalidSeparator) HeaderMnemonicSeparator true ErrorCode.InvalidSeparator refl (refusal-is′ s (stateOf p true true) ErrorCode.InvalidSeparator))
   where
-    go : (b : Bool) → pass.Refused refusal.InvalidSeparator ≡ cond (b && false) (pass.To (p + 1)) (pass.Refused refusal.InvalidSeparator)
+    go : (b : Bool) → pass.Refused ErrorCode.InvalidSeparator ≡ cond (b && false) (pass.To (p + 1)) (pass.Refused ErrorCode.InvalidSeparator)
     go true = refl
     go false = refl

@@ -5,34 +5,26 @@ use mathlib.Core.List.{List}
 use mathlib.Core.Bool.{Bool, true, false}
 use lib.ListN.{getD}
 use Rattle.error.specs.declared.ErrorCode.{ErrorCode}
-use Rattle.error.specs.declared.ErrorCode.the-variants as refusal
 use Rattle.kind.proofs.Tests.{clash}
 use Rattle.node.specs.Tree.{branch}
 use Rattle.branch.specs.Children.{unsaidIn, Picks}
 use Rattle.branch.specs.declared.Pick.the-variants as pick
 use Rattle.branch.proofs.Once.{one-child, no-child}
-use Rattle.token.specs.View.{partOf}
-use Rattle.token.specs.declared.View.{View}
+use Rattle.token.specs.{View.partOf, declared.View.View}
 use Rattle.tokenizer.specs.declared.State.{State}
 use Rattle.spoken.specs.Spoken.{spokenBy}
-use Rattle.ahead.specs.Seen.{seenWith, seenAt}
+use Rattle.ahead.specs.{Seen.seenWith, Seen.seenAt, declared.Stop.Stop, declared.Ahead.Ahead, declared.Seen.Seen}
 use Rattle.header.specs.Header.{leafAnswer, turnOf, undefined, Reads, leaf, refused, said, unsaid, unknown, ended, nowhere, isCommon, keeping, Begins, no-branch, first-refused, no-header, no-question, from-root, common, from-branch}
-use Rattle.ahead.specs.declared.Stop.{Stop}
-use Rattle.ahead.specs.declared.Ahead.{Ahead}
-use Rattle.ahead.specs.declared.Ahead.the-variants as ahead
-use Rattle.ahead.specs.declared.Seen.{Seen}
-use Rattle.header.specs.Turn.{Turn}
+use Rattle.header.specs.{Turn.Turn, declared.Header.Header}
 use Rattle.header.specs.Turn as turn
-use Rattle.header.specs.declared.Header.{Header}
-use Rattle.header.specs.declared.Header.the-variants as header
 
 -- the answer at a branch, by what the header goes on with there
 data Turned (t names s : List ℕ) (h n : ℕ) (seen : Seen) : Turn → Header → Type 0 where
-  refused-here : {e : ErrorCode} → Turned t names s h n seen (turn.Refused e) (header.Refused e)
+  refused-here : {e : ErrorCode} → Turned t names s h n seen (turn.Refused e) (Header.Refused e)
   spoken : {w : View} {st : State} {k : ℕ} {r : Header} → Picks t n (spokenBy t names (partOf s w)) (pick.Child k) → Reads t names s n k (seenAt s st) r
       → Turned t names s h n seen (turn.Word w st) r
   passed : {w : View} {st : State} {k : ℕ} {r : Header} → Picks t n (spokenBy t names (partOf s w)) pick.None → Picks t n (unsaidIn t) (pick.Child k)
-      → Reads t names s h k (seenWith (ahead.Word w) st) r → Turned t names s h n seen (turn.Word w st) r
+      → Reads t names s h k (seenWith (Ahead.Word w) st) r → Turned t names s h n seen (turn.Word w st) r
   missed : {w : View} {st : State} → Picks t n (spokenBy t names (partOf s w)) pick.None → Picks t n (unsaidIn t) pick.None
       → Turned t names s h n seen (turn.Word w st) undefined
   over : {k : ℕ} {r : Header} → Picks t n (unsaidIn t) (pick.Child k) → Reads t names s h k seen r → Turned t names s h n seen turn.Stop r
@@ -61,7 +53,7 @@ module _ {t names s : List ℕ} {h n : ℕ} {seen : Seen} where
   at-leaf m (nowhere l e d) = clash l m
 
   -- by a turn that is known, what is left is one thing only
-  is-refused : {e : ErrorCode} {r : Header} → Turned t names s h n seen (turn.Refused e) r → header.Refused e ≡ r
+  is-refused : {e : ErrorCode} {r : Header} → Turned t names s h n seen (turn.Refused e) r → Header.Refused e ≡ r
   is-refused refused-here = refl
 
   is-said : {w : View} {st : State} {k : ℕ} {r : Header} → Picks t n (spokenBy t names (partOf s w)) (pick.Child k) → Turned t names s h n seen (turn.Word w st) r
@@ -71,7 +63,7 @@ module _ {t names s : List ℕ} {h n : ℕ} {seen : Seen} where
   is-said k (missed j d) = no-child k j
 
   is-unsaid : {w : View} {st : State} {k : ℕ} {r : Header} → Picks t n (spokenBy t names (partOf s w)) pick.None → Picks t n (unsaidIn t) (pick.Child k)
-      → Turned t names s h n seen (turn.Word w st) r → Reads t names s h k (seenWith (ahead.Word w) st) r
+      → Turned t names s h n seen (turn.Word w st) r → Reads t names s h k (seenWith (Ahead.Word w) st) r
   is-unsaid k d (spoken j y) = no-child j k
   is-unsaid k d (passed j c y) = rw (one-child d c) y
   is-unsaid k d (missed j c) = no-child d c
@@ -101,12 +93,12 @@ one-reading (nowhere m e d) y = is-nowhere d (at-turn m e y)
 
 -- the header of a unit, by what it begins with
 pub data Began (t names s : List ℕ) (b : ℕ) (seen : Seen) : Ahead → Header → Type 0 where
-  refused-first : {e : ErrorCode} → Began t names s b seen (ahead.Refused e) (header.Refused e)
-  stopped : {x : Stop} → Began t names s b seen (ahead.Stop x) (header.Refused refusal.SyntaxError)
-  asked : Began t names s b seen ahead.Query (header.Refused refusal.SyntaxError)
-  at-root : {r : Header} → Reads t names s 0 0 (seenAt s (seen .state)) r → Began t names s b seen ahead.Colon r
-  starred : {w : View} {r : Header} → isCommon s w ≡ true → Reads t names s 0 0 seen r → Began t names s b seen (ahead.Word w) (keeping b r)
-  plain : {w : View} {r : Header} → isCommon s w ≡ false → Reads t names s b b seen r → Began t names s b seen (ahead.Word w) r
+  refused-first : {e : ErrorCode} → Began t names s b seen (Ahead.Refused e) (Header.Refused e)
+  stopped : {x : Stop} → Began t names s b seen (Ahead.Stop x) (Header.Refused ErrorCode.SyntaxError)
+  asked : Began t names s b seen Ahead.Query (Header.Refused ErrorCode.SyntaxError)
+  at-root : {r : Header} → Reads t names s 0 0 (seenAt s (seen .state)) r → Began t names s b seen Ahead.Colon r
+  starred : {w : View} {r : Header} → isCommon s w ≡ true → Reads t names s 0 0 seen r → Began t names s b seen (Ahead.Word w) (keeping b r)
+  plain : {w : View} {r : Header} → isCommon s w ≡ false → Reads t names s b b seen r → Began t names s b seen (Ahead.Word w) r
 
 module _ {t names s : List ℕ} {b : ℕ} {seen : Seen} where
   told : {r : Header} {x y : Ahead} → x ≡ y → Began t names s b seen y r → Began t names s b seen x r
@@ -134,7 +126,7 @@ module _ {t names s : List ℕ} {b : ℕ} {seen : Seen} where
   one-beginning (plain c x) (starred d y) = clash d c
   one-beginning (plain c x) (plain d y) = one-reading x y
 
-  no-start : {r : Header} → branch t b ≡ false → Begins t names s b seen r → header.Refused refusal.StartIsNoBranch ≡ r
+  no-start : {r : Header} → branch t b ≡ false → Begins t names s b seen r → Header.Refused ErrorCode.StartIsNoBranch ≡ r
   no-start m (no-branch l) = refl
   no-start m (first-refused l e) = clash l m
   no-start m (no-header l e) = clash l m

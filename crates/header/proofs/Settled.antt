@@ -8,13 +8,9 @@ use native.Mathlib.Omega.{arith}
 use lib.ListN.{length, getD}
 use borrow.Author.Needs.{needs}
 use borrow.Author.Tests.{not-true, not-false}
-use Rattle.node.specs.Word.{isBranch, commandNumber}
-use Rattle.node.specs.Tree.{branch}
+use Rattle.node.specs.{Word.isBranch, Word.commandNumber, Tree.branch}
 use Rattle.branch.specs.Children.{unsaidIn, Picks, PicksIn}
-use Rattle.branch.specs.Block.{childrenOf}
-use Rattle.branch.specs.declared.Block.{Block}
-use Rattle.branch.specs.declared.Pick.{Pick}
-use Rattle.branch.specs.declared.Pick.the-variants as pick
+use Rattle.branch.specs.{Block.childrenOf, declared.Block.Block, declared.Pick.Pick}
 use Rattle.branch.proofs.Picks.{picks-children, deeper}
 use Rattle.ahead.specs.declared.Stop.the-variants as stop
 use Rattle.ahead.specs.declared.Seen.{Seen}
@@ -28,12 +24,12 @@ pub picked : (t : List ℕ) (b : ℕ) (x : Block) → x ≡ childrenOf t b → (
 picked t b x e p y z h q = picks-children t b p z (rw (e, q) at h)
 
 module _ (t : List ℕ) (b : ℕ) (x : Block) (e : x ≡ childrenOf t b) (y : Pick) (h : PicksIn (unsaidIn t) (x .from) (x .to) y) where
-  pub no-default′ : y ≡ pick.None → Settles t b (length t)
-  no-default′ q = unsettled (picked t b x e (unsaidIn t) y pick.None h q)
+  pub no-default′ : y ≡ Pick.None → Settles t b (length t)
+  no-default′ q = unsettled (picked t b x e (unsaidIn t) y Pick.None h q)
 
-  module _ (d : ℕ) (q : y ≡ pick.Child d) where
-    default-picked : Picks t b (unsaidIn t) (pick.Child d)
-    default-picked = picked t b x e (unsaidIn t) y (pick.Child d) h q
+  module _ (d : ℕ) (q : y ≡ Pick.Child d) where
+    default-picked : Picks t b (unsaidIn t) (Pick.Child d)
+    default-picked = picked t b x e (unsaidIn t) y (Pick.Child d) h q
 
     pub default-in′ : d < length t
     default-in′ = deeper default-picked .0

@@ -5,9 +5,7 @@ use mathlib.Core.List.{List}
 use mathlib.Core.Bool.{Bool}
 use borrow.Author.Needs.{needs}
 use Rattle.tokenizer.specs.declared.State.{State}
-use Rattle.ahead.specs.Seen.{seenAt}
-use Rattle.ahead.specs.declared.Ahead.{Ahead}
-use Rattle.ahead.specs.declared.Seen.{Seen}
+use Rattle.ahead.specs.{Seen.seenAt, declared.Ahead.Ahead, declared.Seen.Seen}
 use Rattle.header.specs.Header.{behindQuery, queryAnswer, atLeaf, leafAnswer}
 use Rattle.header.specs.Internal.{aheadAt, isEnding, refusedBy}
 use Rattle.header.specs.declared.Header.{Header}

@@ -10,45 +10,27 @@ use lib.ListN.{length, getD}
 use borrow.Author.Needs.{needs}
 use borrow.Author.Tests.{not-true, not-false, leb-false, ltb-true, lt-ltb}
 use Rattle.error.specs.declared.ErrorCode.{ErrorCode}
-use Rattle.error.specs.declared.ErrorCode.the-variants as refusal
 use Rattle.kind.specs.Class.{isLetter, isDigit, is, inMnemonic}
 use Rattle.kind.proofs.Tests.{clash, and-left, and-right, or-left}
 use Rattle.util.specs.Run.{runEnd, standsAt}
 use Rattle.util.proofs.Runs.{run-again, run-more, run-from}
 use Rattle.mnemonic.specs.Mnemonic.{matches}
-use Rattle.node.specs.Word.{isBranch}
-use Rattle.node.specs.Tree.{branch, nameOf}
+use Rattle.node.specs.{Word.isBranch, Tree.branch, Tree.nameOf}
 use Rattle.branch.specs.Children.{unsaidIn, Picks, PicksIn, first-in, none-in}
-use Rattle.branch.specs.Block.{childrenOf}
-use Rattle.branch.specs.declared.Block.{Block}
-use Rattle.branch.specs.declared.Pick.{Pick}
-use Rattle.branch.specs.declared.Pick.the-variants as pick
+use Rattle.branch.specs.{Block.childrenOf, declared.Block.Block, declared.Pick.Pick}
 use Rattle.branch.proofs.Picks.{deeper}
-use Rattle.token.specs.View.{partOf, viewOf}
-use Rattle.token.specs.declared.Token.{Token}
-use Rattle.token.specs.declared.Token.the-variants.{ProgramMnemonic}
-use Rattle.item.specs.Follow.{token, refused}
-use Rattle.item.specs.Word.{starEnd, mnemonic}
-use Rattle.item.proofs.Progress.{header-behind, common-behind}
-use Rattle.item.specs.declared.Read.{Read}
-use Rattle.item.specs.declared.Read.the-variants as read
+use Rattle.token.specs.{View.partOf, View.viewOf, declared.Token.Token, declared.Token.the-variants.ProgramMnemonic}
+use Rattle.item.specs.{Follow.token, Follow.refused, Word.starEnd, Word.mnemonic, declared.Read.Read}
+use Rattle.forms.proofs.ItemProgress.{header-behind, common-behind}
 use Rattle.tokenizer.specs.Step.{stateOf}
-use Rattle.ahead.specs.Seen.{seenWith}
-use Rattle.ahead.specs.declared.Ahead.{Ahead}
-use Rattle.ahead.specs.declared.Ahead.the-variants as ahead
-use Rattle.ahead.specs.declared.Seen.{Seen}
+use Rattle.ahead.specs.{Seen.seenWith, declared.Ahead.Ahead, declared.Seen.Seen}
 use Rattle.spoken.specs.Spoken.{letterAt, spelledAs, spelledAt, spokenBy, Spells, first-spelled, none-spelled}
-use Rattle.spoken.specs.declared.Spelled.{Spelled}
-use Rattle.spoken.specs.declared.Spelled.the-variants as spelled
-use Rattle.spoken.specs.declared.Spoken.{Spoken}
-use Rattle.spoken.specs.declared.Spoken.the-variants as spoken
-use Rattle.header.specs.Turn.{Turn}
+use Rattle.spoken.specs.{declared.Spelled.Spelled, declared.Spoken.Spoken}
+use Rattle.header.specs.{Turn.Turn, declared.Header.Header}
 use Rattle.header.specs.Turn as turn
 use Rattle.header.specs.Header.{undefined, leafAnswer, atBranch, behindColon, turnOf, Reads, leaf, said, unsaid, unknown, ended, nowhere}
 use Rattle.header.specs.Header as headers
 use Rattle.header.specs.Internal.{aheadAt, begins, goesOn, afterByte, endsAt, isEnding, refusedBy, Settles, Arrives, arrives, strays}
-use Rattle.header.specs.declared.Header.{Header}
-use Rattle.header.specs.declared.Header.the-variants as header
 use Rattle.header.proofs.Places.{inside, there, letter-there, after-colon}
 use Rattle.header.proofs.Mnemonics.{mnemonic-read, isToken, met, refused-ahead, word-ahead, turn-refused, turn-word, colon-there, letter-next, colon-turn, star-turn, colon-refused}
 use Rattle.header.proofs.Endings.{ends-so, ending-turn, ending-refused}
@@ -59,49 +41,49 @@ use Rattle.header.proofs.Once.{one-reading}
 -- what the matcher says of a name
 
 isTo : Spelled → Bool
-isTo (spelled.To n) = true
-isTo spelled.Not = false
+isTo (Spelled.To n) = true
+isTo Spelled.Not = false
 
 endOf : Spelled → ℕ
-endOf (spelled.To n) = n
-endOf spelled.Not = 0
+endOf (Spelled.To n) = n
+endOf Spelled.Not = 0
 
 -- a mnemonic that spells a name is read up to there, has a character at least, and matches the name
 pub record Told (x s : List ℕ) (at next : ℕ) : Type 0 where
-  pub read : mnemonic s at ≡ read.Token (ProgramMnemonic (viewOf at next)) next
+  pub read : mnemonic s at ≡ Read.Token (ProgramMnemonic (viewOf at next)) next
   pub some : at < next
   pub match : matches x (partOf s (viewOf at next)) ≡ true
 
-spells-so : (x s : List ℕ) (at next : ℕ) → spelledAt x s at ≡ spelled.To next → Told x s at next
+spells-so : (x s : List ℕ) (at next : ℕ) → spelledAt x s at ≡ Spelled.To next → Told x s at next
 unfolding spelledAt isTo endOf
 spells-so x s at next e = go (mnemonic s at) refl e
   where
-    go : (r : Read) → mnemonic s at ≡ r → spelledAs x s at r ≡ spelled.To next → Told x s at next
-    go (read.Refused c) q f = absurd (false≢true (ap isTo f))
-    go (read.Token k n) q f = by (ltb at n && matches x (partOf s (viewOf at n))) refl f
+    go : (r : Read) → mnemonic s at ≡ r → spelledAs x s at r ≡ Spelled.To next → Told x s at next
+    go (Read.Refused c) q f = absurd (false≢true (ap isTo f))
+    go (Read.Token k n) q f = by (ltb at n && matches x (partOf s (viewOf at n))) refl f
       where
-        by : (b : Bool) → (ltb at n && matches x (partOf s (viewOf at n))) ≡ b → cond b (spelled.To n) spelled.Not ≡ spelled.To next → Told x s at next
+        by : (b : Bool) → (ltb at n && matches x (partOf s (viewOf at n))) ≡ b → cond b (Spelled.To n) Spelled.Not ≡ Spelled.To next → Told x s at next
         by false g i = absurd (false≢true (ap isTo i))
         by true g i =
             let so : Told x s at n =
             record {
-              read = q ∙ ap (λ (z : Token). read.Token z n) (sym (mnemonic-read s at k n q));
+              read = q ∙ ap (λ (z : Token). Read.Token z n) (sym (mnemonic-read s at k n q));
               some = ltb-true at n (and-left (ltb at n) (matches x (partOf s (viewOf at n))) g);
               match = and-right (ltb at n) (matches x (partOf s (viewOf at n))) g;
             } in
             rw (ap endOf i) at so
 
 -- and one that was read, and does not spell a name, does not match it
-not-spells : (x s : List ℕ) (at next : ℕ) (k : Token) → mnemonic s at ≡ read.Token k next → at < next → spelledAt x s at ≡ spelled.Not → matches x (partOf s (viewOf at next)) ≡ false
+not-spells : (x s : List ℕ) (at next : ℕ) (k : Token) → mnemonic s at ≡ Read.Token k next → at < next → spelledAt x s at ≡ Spelled.Not → matches x (partOf s (viewOf at next)) ≡ false
 unfolding spelledAt isTo
 not-spells x s at next k q l e = go (matches x (partOf s (viewOf at next))) (ap (spelledAs x s at) (sym q) ∙ e)
   where
-    go : (b : Bool) → cond (ltb at next && b) (spelled.To next) spelled.Not ≡ spelled.Not → b ≡ false
+    go : (b : Bool) → cond (ltb at next && b) (Spelled.To next) Spelled.Not ≡ Spelled.Not → b ≡ false
     go false f = refl
     go true f = absurd (false≢true (sym (ap isTo f) ∙ rw (lt-ltb at next l)))
 
 -- a mnemonic has a character at least
-pub some-byte : (s : List ℕ) (at : ℕ) (c : Bool) → begins c s at ≡ true → (k : Token) (next : ℕ) → mnemonic s at ≡ read.Token k next → at < next
+pub some-byte : (s : List ℕ) (at : ℕ) (c : Bool) → begins c s at ≡ true → (k : Token) (next : ℕ) → mnemonic s at ≡ Read.Token k next → at < next
 unfolding inMnemonic
 some-byte s at true w k next q = rw q at (common-behind s at (inside s at 42 w) (there s at 42 w))
 some-byte s at false w k next q =
@@ -109,13 +91,13 @@ some-byte s at false w k next q =
     rw q at (header-behind s at (z .0) (or-left (isDigit (getD s at 0) || is "_" (getD s at 0)) (z .1)))
 
 -- after a mnemonic there is no letter
-no-letter : (s : List ℕ) (at : ℕ) (k : Token) (next : ℕ) → mnemonic s at ≡ read.Token k next → letterAt s next ≡ false
+no-letter : (s : List ℕ) (at : ℕ) (k : Token) (next : ℕ) → mnemonic s at ≡ Read.Token k next → letterAt s next ≡ false
 unfolding mnemonic letterAt inMnemonic
 no-letter s at k next e = go (leb (runEnd inMnemonic s (starEnd s at) - at) 12) e
   where
     nextIn : Read → ℕ
-    nextIn (read.Token k n) = n
-    nextIn (read.Refused c) = 0
+    nextIn (Read.Token k n) = n
+    nextIn (Read.Refused c) = 0
 
     ends : (i n : ℕ) → runEnd inMnemonic s i ≡ n → letterAt s n ≡ false
     ends i n f = by (leb (length s) n) refl (isLetter (getD s n 0)) refl
@@ -129,7 +111,7 @@ no-letter s at k next e = go (leb (runEnd inMnemonic s (starEnd s at) - at) 12) 
         by false g true h =
             absurd (omega (arith, again, run-more inMnemonic s n (leb-false (length s) n g) (or-left (isDigit (getD s n 0) || is "_" (getD s n 0)) h), run-from inMnemonic s (n + 1)))
 
-    go : (b : Bool) → cond b (token (ProgramMnemonic (viewOf at (runEnd inMnemonic s (starEnd s at)))) (runEnd inMnemonic s (starEnd s at))) (refused refusal.ProgramMnemonicTooLong) ≡ read.Token k next
+    go : (b : Bool) → cond b (token (ProgramMnemonic (viewOf at (runEnd inMnemonic s (starEnd s at)))) (runEnd inMnemonic s (starEnd s at))) (refused ErrorCode.ProgramMnemonicTooLong) ≡ Read.Token k next
         → letterAt s next ≡ false
     go true f = ends (starEnd s at) next (ap nextIn f)
     go false f = absurd (false≢true (ap isToken f))
@@ -155,8 +137,8 @@ mnemonic-turn : (s : List ℕ) (p : ℕ) (c : Bool) → begins c s p ≡ true �
 mnemonic-turn s p c w = go (mnemonic s p) refl
   where
     go : (x : Read) → mnemonic s p ≡ x → isStop (turnOf s (aheadAt s p c)) ≡ false
-    go (read.Token k next) q = ap isStop (turn-word s p c (met s p c w) k next q)
-    go (read.Refused e) q = ap isStop (turn-refused s p c (met s p c w) e q)
+    go (Read.Token k next) q = ap isStop (turn-word s p c (met s p c w) k next q)
+    go (Read.Refused e) q = ap isStop (turn-refused s p c (met s p c w) e q)
 
 -- where the mnemonics lead no further at a branch, and the header does not end, what is ahead decides why
 module _ (t names s : List ℕ) (n p : ℕ) (c : Bool) (m : branch t n ≡ true) (l : letterAt s p ≡ false) (z : standsAt 42 s p ≡ false) (g : (goesOn s p ≡ false) ⊎ (c ≡ true)) where
@@ -168,14 +150,14 @@ module _ (t names s : List ℕ) (n p : ℕ) (c : Bool) (m : branch t n ≡ true)
       turns a e = ap (atBranch s (aheadAt s p c .state)) e
 
       go : (a : Ahead) → aheadAt s p c .ahead ≡ a → isEnding a ≡ false → Reads t names s h n (aheadAt s p c) (refusedBy a)
-      go (ahead.Refused e) q i = headers.refused m (turns (ahead.Refused e) q)
-      go (ahead.Stop x) q i = absurd (true≢false i)
-      go ahead.Query q i = absurd (true≢false i)
-      go (ahead.Word w) q i = no-mnemonic s p c l z q
-      go ahead.Colon q i = by g
+      go (Ahead.Refused e) q i = headers.refused m (turns (Ahead.Refused e) q)
+      go (Ahead.Stop x) q i = absurd (true≢false i)
+      go Ahead.Query q i = absurd (true≢false i)
+      go (Ahead.Word w) q i = no-mnemonic s p c l z q
+      go Ahead.Colon q i = by g
         where
-          by : (goesOn s p ≡ false) ⊎ (c ≡ true) → Reads t names s h n (aheadAt s p c) (header.Refused refusal.CommandHeaderError)
-          by (inl k) = headers.refused m (turns ahead.Colon q ∙ sym (ap behindColon (last-colon s p c q k .1)))
+          by : (goesOn s p ≡ false) ⊎ (c ≡ true) → Reads t names s h n (aheadAt s p c) (Header.Refused ErrorCode.CommandHeaderError)
+          by (inl k) = headers.refused m (turns Ahead.Colon q ∙ sym (ap behindColon (last-colon s p c q k .1)))
           by (inr k) = clash k (not-common s p c q)
 
 -- a colon is no star, and in a common command it is refused
@@ -200,24 +182,24 @@ next-begins′ s next c g e q y p ep = rw (y, ep ∙ after-colon s next (sym e �
 pub star-begins′ : (s : List ℕ) (next : ℕ) (u : Bool) → u ≡ standsAt 42 s next → u ≡ true → begins true s next ≡ true
 star-begins′ s next u e q = sym e ∙ q
 
-pub inner-less′ : (t : List ℕ) (b : ℕ) (x : Block) → x ≡ childrenOf t b → (y : Pick) → PicksIn (unsaidIn t) (x .from) (x .to) y → (n : ℕ) → y ≡ pick.Child n
+pub inner-less′ : (t : List ℕ) (b : ℕ) (x : Block) → x ≡ childrenOf t b → (y : Pick) → PicksIn (unsaidIn t) (x .from) (x .to) y → (n : ℕ) → y ≡ Pick.Child n
     → (μ : ℕ) → length t - b ≡ μ → length t - n < μ
-inner-less′ t b x ex y d n e μ i = subst (λ (o : ℕ). length t - n < o) i (deeper (picked t b x ex (unsaidIn t) y (pick.Child n) d e) .1)
+inner-less′ t b x ex y d n e μ i = subst (λ (o : ℕ). length t - n < o) i (deeper (picked t b x ex (unsaidIn t) y (Pick.Child n) d e) .1)
 
 -- the walk from a branch
 
-module _ (t names s : List ℕ) (b at : ℕ) (x : Block) (ex : x ≡ childrenOf t b) (r : Spoken) (z : Spells t names s (x .from) (x .to) at r) (k next : ℕ) (q : r ≡ spoken.Node k next) where
+module _ (t names s : List ℕ) (b at : ℕ) (x : Block) (ex : x ≡ childrenOf t b) (r : Spoken) (z : Spells t names s (x .from) (x .to) at r) (k next : ℕ) (q : r ≡ Spoken.Node k next) where
   spelled-so : Told (nameOf t names k) s at next
   spelled-so = go (rw q at z)
     where
-      go : Spells t names s (x .from) (x .to) at (spoken.Node k next) → Told (nameOf t names k) s at next
+      go : Spells t names s (x .from) (x .to) at (Spoken.Node k next) → Told (nameOf t names k) s at next
       go (first-spelled low high e f) = spells-so (nameOf t names k) s at next e
 
-  spoken-picks : Picks t b (spokenBy t names (partOf s (viewOf at next))) (pick.Child k)
+  spoken-picks : Picks t b (spokenBy t names (partOf s (viewOf at next))) (Pick.Child k)
   unfolding spokenBy
-  spoken-picks = picked t b x ex (spokenBy t names (partOf s (viewOf at next))) (pick.Child k) (pick.Child k) (go (rw q at z)) refl
+  spoken-picks = picked t b x ex (spokenBy t names (partOf s (viewOf at next))) (Pick.Child k) (Pick.Child k) (go (rw q at z)) refl
     where
-      go : Spells t names s (x .from) (x .to) at (spoken.Node k next) → PicksIn (spokenBy t names (partOf s (viewOf at next))) (x .from) (x .to) (pick.Child k)
+      go : Spells t names s (x .from) (x .to) at (Spoken.Node k next) → PicksIn (spokenBy t names (partOf s (viewOf at next))) (x .from) (x .to) (Pick.Child k)
       go (first-spelled low high e f) =
           first-in low high (spelled-so .match) (λ j l u. not-spells (nameOf t names j) s at next (ProgramMnemonic (viewOf at next)) (spelled-so .read) (spelled-so .some) (f j l u))
 
@@ -228,7 +210,7 @@ module _ (t names s : List ℕ) (b at : ℕ) (x : Block) (ex : x ≡ childrenOf 
   child-less′ μ e = subst (λ (n : ℕ). length t - k < n) e (deeper spoken-picks .1)
 
 module _ (t names s : List ℕ) (b at : ℕ) (c : Bool) (held : branch t b ≡ true) (w : begins c s at ≡ true) (x : Block) (ex : x ≡ childrenOf t b) (r : Spoken) (z : Spells t names s (x .from) (x .to) at r) where
-  module _ (k next : ℕ) (q : r ≡ spoken.Node k next) where
+  module _ (k next : ℕ) (q : r ≡ Spoken.Node k next) where
     so : Told (nameOf t names k) s at next
     so = spelled-so t names s b at x ex r z k next q
 
@@ -291,40 +273,40 @@ module _ (t names s : List ℕ) (b at : ℕ) (c : Bool) (held : branch t b ≡ t
 
   -- no child is spelled
 
-  module _ (q : r ≡ spoken.None) where
-    none-picks : (k : Token) (next : ℕ) → mnemonic s at ≡ read.Token k next → Picks t b (spokenBy t names (partOf s (viewOf at next))) pick.None
+  module _ (q : r ≡ Spoken.None) where
+    none-picks : (k : Token) (next : ℕ) → mnemonic s at ≡ Read.Token k next → Picks t b (spokenBy t names (partOf s (viewOf at next))) Pick.None
     unfolding spokenBy
-    none-picks k next e = picked t b x ex (spokenBy t names (partOf s (viewOf at next))) pick.None pick.None (go (rw q at z)) refl
+    none-picks k next e = picked t b x ex (spokenBy t names (partOf s (viewOf at next))) Pick.None Pick.None (go (rw q at z)) refl
       where
-        go : Spells t names s (x .from) (x .to) at spoken.None → PicksIn (spokenBy t names (partOf s (viewOf at next))) (x .from) (x .to) pick.None
+        go : Spells t names s (x .from) (x .to) at Spoken.None → PicksIn (spokenBy t names (partOf s (viewOf at next))) (x .from) (x .to) Pick.None
         go (none-spelled f) = none-in (λ j l u. not-spells (nameOf t names j) s at next k e (some-byte s at c w k next e) (f j l u))
 
-    too-long : (e : ErrorCode) → mnemonic s at ≡ read.Refused e → (h n : ℕ) → branch t n ≡ true → Reads t names s h n (aheadAt s at c) (header.Refused e)
+    too-long : (e : ErrorCode) → mnemonic s at ≡ Read.Refused e → (h n : ℕ) → branch t n ≡ true → Reads t names s h n (aheadAt s at c) (Header.Refused e)
     too-long e f h n m = headers.refused m (turn-refused s at c (met s at c w) e f)
 
-    refused-so : (e : ErrorCode) → mnemonic s at ≡ read.Refused e → refusedBy (aheadAt s at c .ahead) ≡ header.Refused e
+    refused-so : (e : ErrorCode) → mnemonic s at ≡ Read.Refused e → refusedBy (aheadAt s at c .ahead) ≡ Header.Refused e
     refused-so e f = sym (ap (λ (y : Seen). refusedBy (y .ahead)) (refused-ahead s at c (met s at c w) e f))
 
-    undefined-so : (k : Token) (next : ℕ) → mnemonic s at ≡ read.Token k next → refusedBy (aheadAt s at c .ahead) ≡ undefined
+    undefined-so : (k : Token) (next : ℕ) → mnemonic s at ≡ Read.Token k next → refusedBy (aheadAt s at c .ahead) ≡ undefined
     undefined-so k next f = sym (ap (λ (y : Seen). refusedBy (y .ahead)) (word-ahead s at c (met s at c w) k next f))
 
     module _ (y : Pick) (d : PicksIn (unsaidIn t) (x .from) (x .to) y) where
       default-picks : (v : Pick) → y ≡ v → Picks t b (unsaidIn t) v
       default-picks v e = picked t b x ex (unsaidIn t) y v d e
 
-      pub no-way′ : y ≡ pick.None → (kept : ℕ) → Arrives t names s b at c (length t) kept at c
+      pub no-way′ : y ≡ Pick.None → (kept : ℕ) → Arrives t names s b at c (length t) kept at c
       no-way′ e kept = strays (go (mnemonic s at) refl)
         where
           go : (v : Read) → mnemonic s at ≡ v → (h : ℕ) → Reads t names s h b (aheadAt s at c) (refusedBy (aheadAt s at c .ahead))
-          go (read.Token k next) f h = rw (undefined-so k next f) (unknown held (turn-word s at c (met s at c w) k next f) (none-picks k next f) (default-picks pick.None e))
-          go (read.Refused o) f h = rw (refused-so o f) (too-long o f h b held)
+          go (Read.Token k next) f h = rw (undefined-so k next f) (unknown held (turn-word s at c (met s at c w) k next f) (none-picks k next f) (default-picks Pick.None e))
+          go (Read.Refused o) f h = rw (refused-so o f) (too-long o f h b held)
 
-      module _ (n : ℕ) (e : y ≡ pick.Child n) where
+      module _ (n : ℕ) (e : y ≡ Pick.Child n) where
         -- what is answered from the default child on, with the mnemonic still ahead, is answered from the branch
-        inner : (res : Header) (h : ℕ) (k : Token) (next : ℕ) → mnemonic s at ≡ read.Token k next → Reads t names s h n (aheadAt s at c) res → Reads t names s h b (aheadAt s at c) res
+        inner : (res : Header) (h : ℕ) (k : Token) (next : ℕ) → mnemonic s at ≡ Read.Token k next → Reads t names s h n (aheadAt s at c) res → Reads t names s h b (aheadAt s at c) res
         inner res h k next f o =
-            let there : Reads t names s h n (seenWith (ahead.Word (viewOf at next)) (stateOf next true c)) res = rw (word-ahead s at c (met s at c w) k next f) o in
-            unsaid {r = res} held (turn-word s at c (met s at c w) k next f) (none-picks k next f) (default-picks (pick.Child n) e) there
+            let there : Reads t names s h n (seenWith (Ahead.Word (viewOf at next)) (stateOf next true c)) res = rw (word-ahead s at c (met s at c w) k next f) o in
+            unsaid {r = res} held (turn-word s at c (met s at c w) k next f) (none-picks k next f) (default-picks (Pick.Child n) e) there
 
         module _ (g : Bool) (eg : g ≡ isBranch (getD t n 0)) where
           pub past-leaf′ : not g ≡ true → (kept : ℕ) → Arrives t names s b at c (length t) kept at c
@@ -332,11 +314,11 @@ module _ (t names s : List ℕ) (b at : ℕ) (c : Bool) (held : branch t b ≡ t
           past-leaf′ qg kept = strays (go (mnemonic s at) refl)
             where
               go : (v : Read) → mnemonic s at ≡ v → (h : ℕ) → Reads t names s h b (aheadAt s at c) (refusedBy (aheadAt s at c .ahead))
-              go (read.Token k next) f h =
+              go (Read.Token k next) f h =
                   let over : leafAnswer s (getD t n 0) h (aheadAt s at c) ≡ undefined = sym (ap (leafAnswer s (getD t n 0) h) (word-ahead s at c (met s at c w) k next f)) in
                   let there : Reads t names s h n (aheadAt s at c) (leafAnswer s (getD t n 0) h (aheadAt s at c)) = leaf (sym eg ∙ not-true g qg) in
                   rw (undefined-so k next f) (inner undefined h k next f (rw over at there))
-              go (read.Refused o) f h = rw (refused-so o f) (too-long o f h b held)
+              go (Read.Refused o) f h = rw (refused-so o f) (too-long o f h b held)
 
           module _ (qg : not g ≡ false) where
             inner-branch : branch t n ≡ true
@@ -346,8 +328,8 @@ module _ (t names s : List ℕ) (b at : ℕ) (c : Bool) (held : branch t b ≡ t
             below {res} h o = go (mnemonic s at) refl
               where
                 go : (v : Read) → mnemonic s at ≡ v → Reads t names s h b (aheadAt s at c) res
-                go (read.Token k next) f = inner res h k next f o
-                go (read.Refused i) f = rw (one-reading o (too-long i f h n inner-branch)) (too-long i f h b held)
+                go (Read.Token k next) f = inner res h k next f o
+                go (Read.Refused i) f = rw (one-reading o (too-long i f h n inner-branch)) (too-long i f h b held)
 
             pub unsaid-down′ : (a kept place : ℕ) (i : Bool) → Arrives t names s n at c a kept place i → Arrives t names s b at c a kept place i
             unsaid-down′ a kept place i v = go v

@@ -1,4 +1,3 @@
 pub mod Turn
 pub mod Header
 pub mod Internal
-pub mod Claims

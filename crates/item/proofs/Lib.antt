@@ -2,6 +2,3 @@
 pub mod Follow
 pub mod Among
 pub mod Words
-pub mod Seams
-pub mod Accepted
-pub mod Progress

@@ -13,9 +13,8 @@ use Rattle.util.specs.Run.{runEnd, standsAt}
 use Rattle.token.specs.View.{viewOf}
 use Rattle.token.specs.declared.Token.the-variants.{ProgramMnemonic, CharacterProgramData}
 use Rattle.item.specs.Follow.{token, refused, followed}
-use Rattle.item.specs.Near.{runEndAmong}
+use Rattle.item.specs.{Near.runEndAmong, declared.Read.Read}
 use Rattle.item.specs.Word.{starEnd, mnemonic, characterData}
-use Rattle.item.specs.declared.Read.{Read}
 use Rattle.item.proofs.Among.{among-from, among-under, among-whole}
 
 module _ (s : List ℕ) (at : ℕ) where

@@ -1,4 +1,3 @@
 pub mod Follow
 pub mod Near
 pub mod Word
-pub mod Form

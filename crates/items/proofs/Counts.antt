@@ -13,35 +13,28 @@ use Rattle.kind.specs.Class.{is, isWhiteSpace}
 use Rattle.kind.proofs.Tests.{either, clash}
 use Rattle.util.specs.Run.{runEnd}
 use Rattle.token.specs.declared.Token.{Token}
-use Rattle.item.specs.Follow.{endsData}
-use Rattle.item.specs.declared.Read.{Read}
-use Rattle.item.specs.declared.Read.the-variants as read
-use Rattle.separator.specs.Separator.{newlineTo, commaTo}
-use Rattle.separator.specs.declared.Pass.{Pass}
-use Rattle.separator.specs.declared.Pass.the-variants as pass
-use Rattle.tokenizer.specs.Step.{taken}
-use Rattle.tokenizer.specs.declared.State.{State}
-use Rattle.items.specs.Entry.{metWith, metAt}
+use Rattle.item.specs.{Follow.endsData, declared.Read.Read}
+use Rattle.separator.specs.{Separator.newlineTo, Separator.commaTo, declared.Pass.Pass}
+use Rattle.tokenizer.specs.{Step.taken, declared.State.State}
+use Rattle.items.specs.{Entry.metWith, Entry.metAt, declared.Data.Data}
 use Rattle.items.specs.Entry as entry
 use Rattle.items.specs.Items.{Joined, ended, more, missing, doubled, refused, refused-item, Items, none, some, first-missing, first-refused}
 use Rattle.items.specs.Internal.{endsUnit, among, ItemAt, takes, refuses, at-comma, at-end, noItems, newlineData}
-use Rattle.items.specs.declared.Data.{Data}
-use Rattle.items.specs.declared.Data.the-variants as found
 use Rattle.items.proofs.Meets.{met-step, inside, end-met, unit-met, comma-met, comma-refused, newline-met, newline-refused}
 
 -- What the loop keeps: what is answered after n items and one more at a place, or for an item refused there, is answered from the first
 -- place on.
 pub record Partway (s : List ℕ) (first n place : ℕ) : Type 0 where
   pub one-more : (next : State) (r : Data) → metAt s (among place) ≡ metWith entry.Item next → Joined s (n + 1) next r → Items s (among first) r
-  pub no-more : (e : ErrorCode) → ItemAt s place (read.Refused e) → Items s (among first) (found.Refused e)
+  pub no-more : (e : ErrorCode) → ItemAt s place (Read.Refused e) → Items s (among first) (Data.Refused e)
 
 -- No items.
 module _ (s : List ℕ) (first : ℕ) where
-  pub no-text′ : length s ≤ first → Items s (among first) (found.Items 0 first)
+  pub no-text′ : length s ≤ first → Items s (among first) (Data.Items 0 first)
   no-text′ h = none (end-met s first h)
 
   module _ (h : first < length s) where
-    pub no-item′ : getD s first 0 ≡ 59 → (next : ℕ) → next ≡ runEnd isWhiteSpace s (first + 1) → Items s (among first) (found.Items 0 next)
+    pub no-item′ : getD s first 0 ≡ 59 → (next : ℕ) → next ≡ runEnd isWhiteSpace s (first + 1) → Items s (among first) (Data.Items 0 next)
     no-item′ e next f = rw f (none (unit-met s first h e))
 
     pub no-line′ : getD s first 0 ≡ 10 → (r : Data) → r ≡ newlineData s (first + 1) → Items s (among first) r
@@ -49,35 +42,35 @@ module _ (s : List ℕ) (first : ℕ) where
     no-line′ e r f = rw f (go (newlineTo s (first + 1)) refl)
       where
         go : (p : Pass) → p ≡ newlineTo s (first + 1) → Items s (among first) (noItems p)
-        go (pass.To to) q = none (newline-met s first h (pass.To to) e q to refl)
-        go (pass.Refused c) q = first-refused (newline-refused s first h (pass.Refused c) e q c refl)
+        go (Pass.To to) q = none (newline-met s first h (Pass.To to) e q to refl)
+        go (Pass.Refused c) q = first-refused (newline-refused s first h (Pass.Refused c) e q c refl)
 
     pub begun′ : (getD s first 0 ≡ 59 → ⊥) → (getD s first 0 ≡ 10 → ⊥) → Partway s first 0 first
     unfolding endsUnit
     begun′ u l = record { one-more = λ next r e j. some e j; no-more = λ e i. go e i }
       where
-        go : (e : ErrorCode) → ItemAt s first (read.Refused e) → Items s (among first) (found.Refused e)
+        go : (e : ErrorCode) → ItemAt s first (Read.Refused e) → Items s (among first) (Data.Refused e)
         go e (refuses m) = first-refused m
         go e (at-comma m) = first-missing m
         go e (at-end z m) = clash z (rw (lt-leb (length s) first h, ne-eqb (getD s first 0) 10 l, ne-eqb (getD s first 0) 59 u))
 
 -- An item is read.
 module _ (s : List ℕ) (place : ℕ) (x : Read) (d : ItemAt s place x) where
-  pub refused′ : (first n : ℕ) → Partway s first n place → (e : ErrorCode) → x ≡ read.Refused e → Items s (among first) (found.Refused e)
+  pub refused′ : (first n : ℕ) → Partway s first n place → (e : ErrorCode) → x ≡ Read.Refused e → Items s (among first) (Data.Refused e)
   refused′ first n b e q = b .no-more e (rw q at d)
 
-  module _ (t : Token) (end : ℕ) (q : x ≡ read.Token t end) where
+  module _ (t : Token) (end : ℕ) (q : x ≡ Read.Token t end) where
     ends : endsData s end ≡ true
     ends = go (rw q at d)
       where
-        go : ItemAt s place (read.Token t end) → endsData s end ≡ true
+        go : ItemAt s place (Read.Token t end) → endsData s end ≡ true
         go (takes m i e) = e
 
     item-met : metAt s (among place) ≡ metWith entry.Item (among end)
     unfolding taken
     item-met = go (rw q at d)
       where
-        go : ItemAt s place (read.Token t end) → metAt s (among place) ≡ metWith entry.Item (among end)
+        go : ItemAt s place (Read.Token t end) → metAt s (among place) ≡ metWith entry.Item (among end)
         go (takes m i e) = met-step s (among place) (taken t end false false) (sym m) ∙ ap (λ c. metWith c (among end)) i
 
     moves : (place < length s) × (place < end)
@@ -90,10 +83,10 @@ module _ (s : List ℕ) (place : ℕ) (x : Read) (d : ItemAt s place x) where
       after : {r : Data} → Joined s k (among end) r → Items s (among first) r
       after j = b .one-more _ _ item-met (rw ek at j)
 
-      pub text-over′ : length s ≤ end → Items s (among first) (found.Items k end)
+      pub text-over′ : length s ≤ end → Items s (among first) (Data.Items k end)
       text-over′ h = after (ended (end-met s end h))
 
-      pub unit-over′ : end < length s → getD s end 0 ≡ 59 → (next : ℕ) → next ≡ runEnd isWhiteSpace s (end + 1) → Items s (among first) (found.Items k next)
+      pub unit-over′ : end < length s → getD s end 0 ≡ 59 → (next : ℕ) → next ≡ runEnd isWhiteSpace s (end + 1) → Items s (among first) (Data.Items k next)
       unit-over′ h f next g = rw g (after (ended (unit-met s end h f)))
 
     module _ (h : end < length s) (u : getD s end 0 ≡ 59 → ⊥) (p : Pass) (ep : p ≡ commaTo s (end + 1) false) where
@@ -103,17 +96,17 @@ module _ (s : List ℕ) (place : ℕ) (x : Read) (d : ItemAt s place x) where
           ⊎-elim (λ c. eqb-true (getD s end 0) 44 c) (λ c. absurd (u (eqb-true (getD s end 0) 59 c)))
           (either (is "," (getD s end 0)) (is ";" (getD s end 0)) (rw (lt-leb (length s) end h) at ends))
 
-      pub comma-wrong′ : (first n : ℕ) → Partway s first n place → (c : ErrorCode) → p ≡ pass.Refused c → Items s (among first) (found.Refused c)
+      pub comma-wrong′ : (first n : ℕ) → Partway s first n place → (c : ErrorCode) → p ≡ Pass.Refused c → Items s (among first) (Data.Refused c)
       comma-wrong′ first n b c f = after first n b (n + 1) refl (refused (comma-refused s end h p comma ep c f))
 
-      module _ (to : ℕ) (f : p ≡ pass.To to) where
+      module _ (to : ℕ) (f : p ≡ Pass.To to) where
         met : metAt s (among end) ≡ metWith entry.Comma (among to)
         met = comma-met s end h p comma ep to f
 
         pub partway′ : (first n : ℕ) → Partway s first n place → (k : ℕ) → k ≡ n + 1 → Partway s first k to
         partway′ first n b k ek = record { one-more = λ next r e j. after first n b k ek (more met e j); no-more = λ e i. after first n b k ek (go e i) }
           where
-            go : (e : ErrorCode) → ItemAt s to (read.Refused e) → Joined s k (among end) (found.Refused e)
+            go : (e : ErrorCode) → ItemAt s to (Read.Refused e) → Joined s k (among end) (Data.Refused e)
             go e (refuses m) = refused-item met m
             go e (at-comma m) = doubled met m
             go e (at-end z m) = missing met m

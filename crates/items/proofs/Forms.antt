@@ -9,8 +9,7 @@ use lib.Dec.{eqb, leb}
 use lib.ListN.{length, getD}
 use borrow.Author.Needs.{needs}
 use borrow.Author.Tests.{eqb-true, leb-true, le-leb, lt-leb, ne-eqb}
-use Rattle.error.specs.declared.ErrorCode.{ErrorCode}
-use Rattle.error.specs.declared.ErrorCode.the-variants.{SyntaxError}
+use Rattle.error.specs.{declared.ErrorCode.ErrorCode, declared.ErrorCode.the-variants.SyntaxError}
 use Rattle.kind.specs.Class.{is, isWhiteSpace, isCapital, isSmall, isDigit, isLetter, isSign, isQuote, isAscii, inMnemonic}
 use Rattle.kind.specs.Kind.{kindOf}
 use Rattle.kind.proofs.Bytes.{agrees}
@@ -20,21 +19,15 @@ use Rattle.token.specs.declared.Token.{Token}
 use Rattle.token.specs.declared.Token.the-variants.{HeaderMnemonicSeparator, HeaderQuerySuffix, ProgramDataSeparator}
 use Rattle.item.specs.Word.{starEnd, mnemonic, characterData}
 use Rattle.item.specs.declared.Read.{Read}
-use Rattle.item.specs.declared.Read.the-variants as read
 use Rattle.decimal.specs.Decimal.{numericData}
-use Rattle.enclosed.specs.String.{stringData}
-use Rattle.enclosed.specs.Expression.{expressionData}
+use Rattle.enclosed.specs.{String.stringData, Expression.expressionData}
 use Rattle.hash.specs.Block.{hashData}
 use Rattle.separator.specs.Separator.{newlineTo, colonTo, questionTo, commaTo}
 use Rattle.separator.specs.declared.Pass.{Pass}
-use Rattle.separator.specs.declared.Pass.the-variants as pass
 use Rattle.tokenizer.specs.Step.{taken, refusal, ended, readAs, passed, endedBy, newlineBefore, colonBefore, questionBefore, commaBefore, byKind, step}
-use Rattle.tokenizer.specs.declared.State.{State}
-use Rattle.tokenizer.specs.declared.Answer.{Answer}
-use Rattle.tokenizer.specs.declared.Answer.the-variants as answer
-use Rattle.tokenizer.specs.declared.Step.{Step}
+use Rattle.tokenizer.specs.{declared.State.State, declared.Answer.Answer, declared.Step.Step}
 use Rattle.tokenizer.proofs.Steps.{word-data′, outside-data′, letter′, parenthesis′, hash′, quote′, number′}
-use Rattle.tokenizer.proofs.Claims.{claims}
+use Rattle.tokens.proofs.StepClaims.{claims}
 use Rattle.items.specs.Entry.{tokenEntry, metWith, metOf, metAt}
 use Rattle.items.specs.Internal.{beginsNumber, beginsData, endsUnit, among, ItemAt, takes, refuses, at-comma, at-end, newlineData}
 use Rattle.items.specs.declared.Data.the-variants as found
@@ -82,11 +75,11 @@ number-kind b e = rw e at (of-numbers b (number-below b e))
 
 -- The data at a newline.
 module _ (s : List ℕ) (next : ℕ) (p : Pass) (e : p ≡ newlineTo s next) where
-  pub newline-over′ : (to : ℕ) → p ≡ pass.To to → found.Items 0 to ≡ newlineData s next
+  pub newline-over′ : (to : ℕ) → p ≡ Pass.To to → found.Items 0 to ≡ newlineData s next
   unfolding newlineData
   newline-over′ to q = rw (← e, q)
 
-  pub newline-wrong′ : (c : ErrorCode) → p ≡ pass.Refused c → found.Refused c ≡ newlineData s next
+  pub newline-wrong′ : (c : ErrorCode) → p ≡ Pass.Refused c → found.Refused c ≡ newlineData s next
   unfolding newlineData
   newline-wrong′ c q = rw (← e, q)
 
@@ -94,9 +87,9 @@ pub ruleset newlines = (needs, newline-over′, newline-wrong′)
 
 -- What is answered at a byte that begins no data.
 abbrev answered : Answer → Read
-answered (answer.Token t) = read.Refused SyntaxError
-answered answer.End = read.Refused SyntaxError
-answered (answer.Refused e) = read.Refused e
+answered (Answer.Token t) = Read.Refused SyntaxError
+answered Answer.End = Read.Refused SyntaxError
+answered (Answer.Refused e) = Read.Refused e
 
 module _ (s : List ℕ) (at : ℕ) where
   abbrev st : State
@@ -108,15 +101,15 @@ module _ (s : List ℕ) (at : ℕ) where
   abbrev Bare : Step → Type 0
   Bare x = metAt s st ≡ metOf x → ItemAt s at (answered (x .answer))
 
-  bare-passed : (t : Token) (p : Pass) → ((next : State) → metAt s st ≡ metWith (tokenEntry t) next → ItemAt s at (read.Refused SyntaxError)) → Bare (passed s st t false p)
+  bare-passed : (t : Token) (p : Pass) → ((next : State) → metAt s st ≡ metWith (tokenEntry t) next → ItemAt s at (Read.Refused SyntaxError)) → Bare (passed s st t false p)
   unfolding passed taken refusal
-  bare-passed t (pass.To next) f m = f _ m
-  bare-passed t (pass.Refused e) f m = refuses m
+  bare-passed t (Pass.To next) f m = f _ m
+  bare-passed t (Pass.Refused e) f m = refuses m
 
   bare-ended : (p : Pass) → endsUnit s at ≡ true → Bare (endedBy s st p)
   unfolding endedBy ended refusal
-  bare-ended (pass.To next) z m = at-end z m
-  bare-ended (pass.Refused e) z m = refuses m
+  bare-ended (Pass.To next) z m = at-end z m
+  bare-ended (Pass.Refused e) z m = refuses m
 
   module _ (n : beginsData b ≡ false) where
     bare-kind : Bare (byKind s st at b (kindOf b))
@@ -166,14 +159,14 @@ module _ (s : List ℕ) (at : ℕ) where
           (λ h. subst (λ (y : Step). ItemAt s at (answered (y .answer))) (sym (claims .rests s st h) ∙ sym e) (at-end (or-left (is "\n" b || is ";" b) (le-leb (length s) at h)) (end-met s at h)))
           (less-or-not at (length s)))
 
-      pub bare-end′ : x .answer ≡ answer.End → ItemAt s at (read.Refused SyntaxError)
-      bare-end′ q = bare answer.End q
+      pub bare-end′ : x .answer ≡ Answer.End → ItemAt s at (Read.Refused SyntaxError)
+      bare-end′ q = bare Answer.End q
 
-      pub bare-refused′ : (c : ErrorCode) → x .answer ≡ answer.Refused c → ItemAt s at (read.Refused c)
-      bare-refused′ c q = bare (answer.Refused c) q
+      pub bare-refused′ : (c : ErrorCode) → x .answer ≡ Answer.Refused c → ItemAt s at (Read.Refused c)
+      bare-refused′ c q = bare (Answer.Refused c) q
 
-      pub bare-token′ : (t : Token) → x .answer ≡ answer.Token t → ItemAt s at (read.Refused SyntaxError)
-      bare-token′ t q = bare (answer.Token t) q
+      pub bare-token′ : (t : Token) → x .answer ≡ Answer.Token t → ItemAt s at (Read.Refused SyntaxError)
+      bare-token′ t q = bare (Answer.Token t) q
 
 pub ruleset bares = (needs, bare-end′, bare-refused′, bare-token′)
 
@@ -181,10 +174,10 @@ pub ruleset bares = (needs, bare-end′, bare-refused′, bare-token′)
 module _ (s : List ℕ) (at : ℕ) where
   as-item : (r : Read) → DataRead s r → readAs s (among at) false r ≡ step s (among at) → ItemAt s at r
   unfolding readAs refusal
-  as-item (read.Token t next) d f = takes (sym f) (d .0) (d .1)
-  as-item (read.Refused e) d f = refuses (met-step s (among at) (refusal s (among at) e) f)
+  as-item (Read.Token t next) d f = takes (sym f) (d .0) (d .1)
+  as-item (Read.Refused e) d f = refuses (met-step s (among at) (refusal s (among at) e) f)
 
-  pub none-read′ : length s ≤ at → ItemAt s at (read.Refused SyntaxError)
+  pub none-read′ : length s ≤ at → ItemAt s at (Read.Refused SyntaxError)
   unfolding endsUnit
   none-read′ h = at-end (or-left (is "\n" (getD s at 0) || is ";" (getD s at 0)) (le-leb (length s) at h)) (end-met s at h)
 

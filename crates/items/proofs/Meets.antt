@@ -6,20 +6,16 @@ use mathlib.Core.List.{List}
 use mathlib.Core.Bool.{Bool, true, false}
 use lib.ListN.{length, getD}
 use Rattle.error.specs.declared.ErrorCode.{ErrorCode}
-use Rattle.kind.specs.Class.{isWhiteSpace}
-use Rattle.kind.specs.Kind.{kindOf}
+use Rattle.kind.specs.{Class.isWhiteSpace, Kind.kindOf}
 use Rattle.kind.proofs.Tests.{clash, less-or-not}
 use Rattle.util.specs.Run.{runEnd}
 use Rattle.token.specs.declared.Token.the-variants.{ProgramMessageUnitSeparator, ProgramDataSeparator}
-use Rattle.separator.specs.Separator.{newlineTo, commaTo}
-use Rattle.separator.specs.declared.Pass.{Pass}
-use Rattle.separator.specs.declared.Pass.the-variants as pass
+use Rattle.separator.specs.{Separator.newlineTo, Separator.commaTo, declared.Pass.Pass}
 use Rattle.tokenizer.specs.Step.{taken, refusal, ended, step}
-use Rattle.tokenizer.specs.declared.State.{State}
+use Rattle.tokenizer.specs.{declared.State.State, declared.Step.Step}
 use Rattle.tokenizer.specs.declared.Answer.the-variants as answer
-use Rattle.tokenizer.specs.declared.Step.{Step}
 use Rattle.tokenizer.proofs.Steps.{end′, pass-to′, pass-refused′, newline-to′, newline-refused′, comma-is′, newline′, semicolon′, comma′}
-use Rattle.tokenizer.proofs.Claims.{claims}
+use Rattle.tokens.proofs.StepClaims.{claims}
 use Rattle.items.specs.Entry.{Entry, Met, entryOf, metWith, metOf, metAt}
 use Rattle.items.specs.Entry as entry
 use Rattle.items.specs.Internal.{among}
@@ -63,26 +59,26 @@ module _ (s : List ℕ) (at : ℕ) where
 
     module _ (p : Pass) where
       module _ (e : getD s at 0 ≡ 44) (ep : p ≡ commaTo s (at + 1) false) where
-        pub comma-met : (next : ℕ) → p ≡ pass.To next → metAt s st ≡ metWith entry.Comma (among next)
+        pub comma-met : (next : ℕ) → p ≡ Pass.To next → metAt s st ≡ metWith entry.Comma (among next)
         unfolding kindOf isWhiteSpace taken
         comma-met next q =
             let y = taken ProgramDataSeparator next false false in
             met-step s st y (comma′ s st h k refl y (rw e) (comma-is′ s st (at + 1) p y ep (pass-to′ s st p ProgramDataSeparator false y next q refl)))
 
-        pub comma-refused : (c : ErrorCode) → p ≡ pass.Refused c → metAt s st ≡ metWith (entry.Refused c) (among (length s))
+        pub comma-refused : (c : ErrorCode) → p ≡ Pass.Refused c → metAt s st ≡ metWith (entry.Refused c) (among (length s))
         unfolding kindOf isWhiteSpace refusal
         comma-refused c q =
             let y = refusal s st c in
             met-step s st y (comma′ s st h k refl y (rw e) (comma-is′ s st (at + 1) p y ep (pass-refused′ s st p ProgramDataSeparator false y c q refl)))
 
       module _ (e : getD s at 0 ≡ 10) (ep : p ≡ newlineTo s (at + 1)) where
-        pub newline-met : (next : ℕ) → p ≡ pass.To next → metAt s st ≡ metWith entry.End (among next)
+        pub newline-met : (next : ℕ) → p ≡ Pass.To next → metAt s st ≡ metWith entry.End (among next)
         unfolding kindOf ended
         newline-met next q =
             let y = ended (among next) next in
             met-step s st y (newline′ s st h k refl y (rw e) (newline-to′ s st (at + 1) p y ep next q refl))
 
-        pub newline-refused : (c : ErrorCode) → p ≡ pass.Refused c → metAt s st ≡ metWith (entry.Refused c) (among (length s))
+        pub newline-refused : (c : ErrorCode) → p ≡ Pass.Refused c → metAt s st ≡ metWith (entry.Refused c) (among (length s))
         unfolding kindOf refusal
         newline-refused c q =
             let y = refusal s st c in

@@ -11,20 +11,12 @@ use Rattle.error.specs.declared.ErrorCode.{ErrorCode}
 use Rattle.kind.specs.Class.{is, isWhiteSpace, inMnemonic, isDigit}
 use Rattle.kind.proofs.Tests.{by-test, or-left}
 use Rattle.util.specs.Run.{runEnd, standsAt, every}
-use Rattle.number.specs.Digit.{valueOf}
-use Rattle.number.specs.Number.{unsignedAt}
-use Rattle.number.specs.declared.Radix.{Radix}
+use Rattle.number.specs.{Digit.valueOf, Number.unsignedAt, declared.Radix.Radix, declared.Unsigned.Unsigned}
 use Rattle.number.specs.declared.Radix.the-variants.{Binary, Octal, Hexadecimal}
-use Rattle.number.specs.declared.Unsigned.{Unsigned}
-use Rattle.number.specs.declared.Unsigned.the-variants as unsigned
-use Rattle.token.specs.declared.View.{View}
-use Rattle.token.specs.declared.Token.{Token}
-use Rattle.item.specs.Follow.{endsData, followed}
-use Rattle.item.specs.Word.{characterData}
-use Rattle.item.specs.declared.Read.{Read}
-use Rattle.item.specs.declared.Read.the-variants as read
+use Rattle.token.specs.{declared.View.View, declared.Token.Token}
+use Rattle.item.specs.{Follow.endsData, Follow.followed, Word.characterData, declared.Read.Read}
 use Rattle.decimal.specs.Decimal.{inSuffix, beginsSuffix, suffixed, suffixData, numericData}
-use Rattle.decimal.proofs.ByEnd.{by-end}
+use Rattle.forms.proofs.DecimalByEnd.{by-end}
 use Rattle.enclosed.specs.String.{stringEnd, closed, stringData}
 use Rattle.enclosed.specs.Expression.{inExpression, bracketed, expressionData}
 use Rattle.hash.specs.Nondecimal.{nondecimalOf, nondecimalData}
@@ -34,8 +26,8 @@ use Rattle.items.specs.Entry as entry
 
 module _ (s : List ℕ) where
   abbrev pub DataRead : Read → Type 0
-  DataRead (read.Token t next) = (tokenEntry t ≡ entry.Item) × (endsData s next ≡ true)
-  DataRead (read.Refused e) = Unit {0}
+  DataRead (Read.Token t next) = (tokenEntry t ≡ entry.Item) × (endsData s next ≡ true)
+  DataRead (Read.Refused e) = Unit {0}
 
   followed-data : (t : Token) (e : ErrorCode) (end : ℕ) → tokenEntry t ≡ entry.Item → DataRead (followed t e s end)
   unfolding followed
@@ -73,9 +65,9 @@ module _ (s : List ℕ) where
 
   nondecimal-of : (at : ℕ) (u : Unsigned) → DataRead (nondecimalOf s at u)
   unfolding nondecimalOf
-  nondecimal-of at (unsigned.Value v end) = followed-data _ _ _ refl
-  nondecimal-of at unsigned.TooLarge = tt
-  nondecimal-of at unsigned.NoDigit = by-test DataRead (leb (length s) at) (λ _. tt) (λ _. tt)
+  nondecimal-of at (Unsigned.Value v end) = followed-data _ _ _ refl
+  nondecimal-of at Unsigned.TooLarge = tt
+  nondecimal-of at Unsigned.NoDigit = by-test DataRead (leb (length s) at) (λ _. tt) (λ _. tt)
 
   nondecimal-data : (radix : Radix) (at : ℕ) → DataRead (nondecimalData radix s at)
   unfolding nondecimalData

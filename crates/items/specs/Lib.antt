@@ -1,4 +1,3 @@
 pub mod Entry
 pub mod Items
 pub mod Internal
-pub mod Claims

@@ -7,8 +7,7 @@ use lib.Dec.{eqb, leb}
 use borrow.Author.Needs.{needs}
 use borrow.Author.Tests.{ne-eqb}
 use Rattle.kind.specs.Class.{isWhiteSpace, isCapital, isSmall, isDigit, isLetter, inMnemonic, isSign}
-use Rattle.kind.proofs.Bytes.{agrees}
-use Rattle.kind.proofs.Classes.{under, onward}
+use Rattle.kind.proofs.{Bytes.agrees, Classes.under, Classes.onward}
 
 module _ (b : ℕ) where
   pub capital-below′ : b < 65 → false ≡ isCapital b

@@ -3,4 +3,3 @@ pub mod Tests
 pub mod Bytes
 pub mod Classes
 pub mod Laws
-pub mod OfKind

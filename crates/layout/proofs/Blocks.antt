@@ -13,11 +13,9 @@ use borrow.Author.Tests.{not-true, eqb-false, ne-eqb}
 use Rattle.kind.proofs.Tests.{clash, less-or-not}
 use Rattle.util.specs.Decides.{Decides, holds}
 use Rattle.util.proofs.Decided.{by-both}
-use Rattle.node.specs.Word.{isBranch}
-use Rattle.node.specs.Tree.{branch, first}
+use Rattle.node.specs.{Word.isBranch, Tree.branch, Tree.first}
 use Rattle.node.proofs.Laws.{past-table}
-use Rattle.branch.specs.Block.{blockOf}
-use Rattle.branch.specs.declared.Block.{Block}
+use Rattle.branch.specs.{Block.blockOf, declared.Block.Block}
 use Rattle.layout.specs.Layout.{behind, ChildBlocks, not-behind, not-to-end, too-early}
 use Rattle.util.proofs.Before.{Before, none-yet, one-more}
 

@@ -2,4 +2,3 @@
 pub mod Fields
 pub mod Blocks
 pub mod NodeNames
-pub mod Claims

@@ -1,3 +1,2 @@
 pub mod Layout
 pub mod Internal
-pub mod Claims

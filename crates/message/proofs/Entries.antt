@@ -8,19 +8,15 @@ use lib.ListN.{length, getD}
 use borrow.Author.Needs.{needs}
 use borrow.Author.Tests.{not-true, not-false, le-leb}
 use Rattle.error.specs.declared.ErrorCode.{ErrorCode}
-use Rattle.error.specs.declared.ErrorCode.the-variants as refusal
 use Rattle.node.specs.Word.{isBranch}
-use Rattle.table.specs.Fault.{Verdict}
-use Rattle.table.specs.declared.Checked.{Checked}
-use Rattle.table.specs.declared.Checked.the-variants as checked
+use Rattle.table.specs.{Fault.Verdict, declared.Checked.Checked}
 use Rattle.table.proofs.Told.{faultless}
 use Rattle.record.specs.declared.Record.{Record}
 use Rattle.message.specs.Message.{Ending, refused, Units, Message, no-branch, too-long, text, CheckedMessage, fault, sound, written, recorded, Walks}
 use Rattle.message.specs.declared.Walked.{Walked}
-use Rattle.message.specs.declared.Walked.the-variants as walked
 
 -- a message that is refused before its first unit leaves the slots as they are
-at-once : {M : List Record → Ending → Type 0} {e : ErrorCode} (slots : List ℕ) → M [] (refused e) → Walks M slots (walked.Refused 0 e) slots
+at-once : {M : List Record → Ending → Type 0} {e : ErrorCode} (slots : List ℕ) → M [] (refused e) → Walks M slots (Walked.Refused 0 e) slots
 unfolding recorded written
 at-once slots h = record { units = []; ending = refused _; reads = h; outcome = rw (le-leb 0 (length slots) (omega arith)) }
 
@@ -32,11 +28,11 @@ as-well f w = record { units = w .units; ending = w .ending; reads = f (w .units
 -- without the check
 
 module _ (t names : List ℕ) (b : ℕ) (s slots : List ℕ) (r : Bool) (e : r ≡ isBranch (getD t b 0)) where
-  pub no-start′ : not r ≡ true → Walks (Message t names b s) slots (walked.Refused 0 refusal.StartIsNoBranch) slots
+  pub no-start′ : not r ≡ true → Walks (Message t names b s) slots (Walked.Refused 0 ErrorCode.StartIsNoBranch) slots
   no-start′ q = at-once slots (no-branch (sym e ∙ not-true r q))
 
   module _ (q : not r ≡ false) where
-    pub too-long′ : 65535 < length s → Walks (Message t names b s) slots (walked.Refused 0 refusal.MessageTooLong) slots
+    pub too-long′ : 65535 < length s → Walks (Message t names b s) slots (Walked.Refused 0 ErrorCode.MessageTooLong) slots
     too-long′ h = at-once slots (too-long (sym e ∙ not-false r q) h)
 
     pub text′ : length s ≤ 65535 → (w : Walked) (after : List ℕ) → Walks (Units t names s b 0) slots w after → Walks (Message t names b s) slots w after
@@ -47,10 +43,10 @@ pub ruleset accepted-laws = (needs, no-start′, too-long′, text′)
 -- with the table's check
 
 module _ (t names : List ℕ) (x : Checked) (v : Verdict t names x) (b : ℕ) (s slots : List ℕ) where
-  pub fault′ : (c : ErrorCode) → x ≡ checked.Fault c → Walks (CheckedMessage t names b s) slots (walked.Refused 0 c) slots
+  pub fault′ : (c : ErrorCode) → x ≡ Checked.Fault c → Walks (CheckedMessage t names b s) slots (Walked.Refused 0 c) slots
   fault′ c e = at-once slots (fault (rw e at v))
 
-  pub sound′ : x ≡ checked.Accepted → (w : Walked) (after : List ℕ) → Walks (Message t names b s) slots w after → Walks (CheckedMessage t names b s) slots w after
+  pub sound′ : x ≡ Checked.Accepted → (w : Walked) (after : List ℕ) → Walks (Message t names b s) slots w after → Walks (CheckedMessage t names b s) slots w after
   sound′ e w after y = as-well (λ us f. sound (faultless v e)) y
 
 pub ruleset checked-laws = (needs, fault′, sound′)

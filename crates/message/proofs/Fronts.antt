@@ -8,15 +8,11 @@ use borrow.Author.Needs.{needs}
 use Rattle.error.specs.declared.ErrorCode.the-variants as refusal
 use Rattle.kind.proofs.Tests.{clash}
 use Rattle.node.specs.Tree.{branch}
-use Rattle.tokenizer.specs.declared.State.{State}
-use Rattle.tokenizer.specs.declared.Step.{Step}
-use Rattle.tokenizer.proofs.Claims as tokens
-use Rattle.ahead.specs.Seen.{aheadOf, seenAt}
-use Rattle.ahead.specs.declared.Seen.{Seen}
-use Rattle.header.specs.Header.{Begins}
+use Rattle.tokenizer.specs.{declared.State.State, declared.Step.Step}
+use Rattle.tokens.proofs.StepClaims as tokens
+use Rattle.ahead.specs.{Seen.aheadOf, Seen.seenAt, declared.Seen.Seen}
+use Rattle.header.specs.{Header.Begins, declared.Header.Header}
 use Rattle.header.specs.Header as begins
-use Rattle.header.specs.declared.Header.{Header}
-use Rattle.header.specs.declared.Header.the-variants as header
 use Rattle.unit.specs.Unit.{Reads, whole}
 use Rattle.unit.specs.declared.Unit.the-variants as unit
 use Rattle.record.specs.declared.Record.{Record}
@@ -29,8 +25,8 @@ past-text s st h = ap (λ (x : Step). isEnd (aheadOf (x .answer))) (tokens.claim
 
 -- a header from the branch b that is not refused as one that is missing
 abbrev Present : List ℕ → ℕ → Header → Type 0
-Present t b (header.Found c query kept x p) = Unit {0}
-Present t b (header.Refused e) = (branch t b ≡ true) × (e ≡ refusal.SyntaxError → ⊥)
+Present t b (Header.Found c query kept x p) = Unit {0}
+Present t b (Header.Refused e) = (branch t b ≡ true) × (e ≡ refusal.SyntaxError → ⊥)
 
 -- such a header does not begin at the end of the text
 pub begun : {t names s : List ℕ} {b : ℕ} {seen : Seen} {h : Header} → Begins t names s b seen h → Present t b h → isEnd (seen .ahead) ≡ false

@@ -8,14 +8,11 @@ use native.Mathlib.Omega.{arith}
 use lib.ListN.{length}
 use Rattle.kind.proofs.Tests.{clash, less-or-not}
 use Rattle.node.specs.Tree.{branch}
-use Rattle.tokenizer.specs.Step.{stateOf}
-use Rattle.tokenizer.specs.declared.State.{State}
-use Rattle.tokenizer.proofs.Claims as tokens
+use Rattle.tokenizer.specs.{Step.stateOf, declared.State.State}
+use Rattle.tokens.proofs.StepClaims as tokens
 use Rattle.ahead.specs.Seen.{seenAt}
-use Rattle.unit.specs.Unit.{Reads}
-use Rattle.unit.specs.declared.Unit.{Unit}
-use Rattle.unit.specs.declared.Unit.the-variants as unit
-use Rattle.unit.proofs.Claims as units
+use Rattle.unit.specs.{Unit.Reads, declared.Unit.Unit}
+use Rattle.units.proofs.UnitClaims as units
 use Rattle.record.specs.declared.Record.{Record}
 use Rattle.message.specs.Message.{beginningAt, isEnd, Ending, Units, none, stopped, next, Message, no-branch, too-long, text}
 use Rattle.message.proofs.Fronts.{past-text}
@@ -40,8 +37,8 @@ module _ (t names s : List ℕ) where
       go false x rest = let z = units.claims .some-answer t names s b (beginningAt s p) in by-unit (z .0) (z .1)
         where
           by-unit : (r : Unit) → Reads t names s b (beginningAt s p) r → (us : List Record) × (e : Ending) × Units t names s b p us e
-          by-unit (unit.Refused c) y = (_, _, stopped x y)
-          by-unit (unit.Read u after) y =
+          by-unit (Unit.Refused c) y = (_, _, stopped x y)
+          by-unit (Unit.Read u after) y =
               let i = inside s (stateOf p true false) x in
               let q = units.claims .onward _ _ _ _ _ _ _ y in
               let z = rest (u .branch) after (omega (arith, l, i, q)) in

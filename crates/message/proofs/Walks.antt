@@ -8,18 +8,13 @@ use lib.ListN.{length, set, length-set, length-append}
 use borrow.Author.Needs.{needs}
 use borrow.Author.Tests.{le-leb, lt-leb}
 use Rattle.error.specs.declared.ErrorCode.{ErrorCode}
-use Rattle.error.specs.declared.ErrorCode.the-variants as refusal
 use Rattle.node.specs.Tree.{branch}
 use Rattle.tokenizer.specs.Step.{stateOf}
-use Rattle.unit.specs.Unit.{Reads}
-use Rattle.unit.specs.declared.Unit.{Unit}
-use Rattle.unit.specs.declared.Unit.the-variants as unit
-use Rattle.record.specs.Word.{wordOf}
-use Rattle.record.specs.declared.Record.{Record}
+use Rattle.unit.specs.{Unit.Reads, declared.Unit.Unit}
+use Rattle.record.specs.{Word.wordOf, declared.Record.Record}
 use Rattle.message.specs.Message.{beginningAt, isEnd, Ending, complete, refused, Units, none, stopped, next, written, told, recorded, Walks}
 use Rattle.message.specs.declared.Walked.the-variants as walked
-use Rattle.message.proofs.Fronts.{past-text, unit-begun}
-use Rattle.message.proofs.Some.{some-units}
+use Rattle.message.proofs.{Fronts.past-text, Fronts.unit-begun, Some.some-units}
 
 -- the slots: one more word, and what does not fit
 
@@ -96,14 +91,14 @@ module _ (t names s : List ℕ) (start : ℕ) (before : List ℕ) (count kept p 
     read : (x : Unit) → r ≡ x → Reads t names s kept (beginningAt s p) x
     read x f = subst (λ (z : Unit). Reads t names s kept (beginningAt s p) z) f y
 
-    pub refused′ : (q : Bool) → q ≡ isEnd (beginningAt s p .ahead) → q ≡ false → (e : ErrorCode) → r ≡ unit.Refused e → Walks M before (walked.Refused count e) slots
+    pub refused′ : (q : Bool) → q ≡ isEnd (beginningAt s p .ahead) → q ≡ false → (e : ErrorCode) → r ≡ Unit.Refused e → Walks M before (walked.Refused count e) slots
     refused′ q o h e f = ends (refused e) (stopped (sym o ∙ h) (read _ f))
 
-    module _ (u : Record) (after : ℕ) (f : r ≡ unit.Read u after) where
+    module _ (u : Record) (after : ℕ) (f : r ≡ Unit.Read u after) where
       whole : (us : List Record) (e : Ending) → Units t names s (u .branch) after us e → M (so .units ++ (u ∷ us)) e
       whole us e x = so .back _ e (next (unit-begun (read _ f)) (read _ f) x)
 
-      pub full′ : length slots ≤ count → Walks M before (walked.Refused count refusal.NoSlotLeft) slots
+      pub full′ : length slots ≤ count → Walks M before (walked.Refused count ErrorCode.NoSlotLeft) slots
       unfolding recorded
       full′ l =
           let rest = some-units t names s (u .branch) after in

@@ -4,6 +4,3 @@ pub mod Bytes
 pub mod Split
 pub mod Compare
 pub mod Match
-pub mod Alike
-pub mod Spelling
-pub mod Claims

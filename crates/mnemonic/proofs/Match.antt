@@ -11,8 +11,7 @@ use borrow.Author.Needs.{needs}
 use borrow.Author.Tests.{not-true, not-false, eqb-false, ne-eqb}
 use Rattle.kind.specs.Class.{isCapital}
 use Rattle.mnemonic.specs.Mnemonic.{pairs, folded, eitherCase, compares, numericSuffixStart, sameNumericSuffix, matches, beginsOtherwise}
-use Rattle.mnemonic.proofs.Pairs.{differ}
-use Rattle.mnemonic.proofs.Split.{stem-some, starts-within′}
+use Rattle.mnemonic.proofs.{Pairs.differ, Split.stem-some, Split.starts-within′}
 use Rattle.mnemonic.proofs.Compare.{part-long′, to-end, begin-apart}
 
 empty : (x : List ℕ) → length x ≡ 0 → x ≡ []

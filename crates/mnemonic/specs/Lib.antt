@@ -1,3 +1,2 @@
 pub mod Mnemonic
 pub mod Spelling
-pub mod Claims

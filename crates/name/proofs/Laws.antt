@@ -14,10 +14,8 @@ use Rattle.util.specs.Run.{run, runEnd, standsAt}
 use Rattle.util.proofs.Every.{run-within}
 use Rattle.util.proofs.Runs.{run-past, run-stop, run-more}
 use Rattle.mnemonic.specs.Mnemonic.{notSmall, compares, numericSuffixStart, sameNumericSuffix}
-use Rattle.mnemonic.proofs.Compare.{part-long′, to-end}
-use Rattle.mnemonic.proofs.Split.{starts-within′}
-use Rattle.name.specs.Parts.{endsFrom, namesFrom}
-use Rattle.name.specs.Share.{formOf, shares}
+use Rattle.mnemonic.proofs.{Compare.part-long′, Compare.to-end, Split.starts-within′}
+use Rattle.name.specs.{Parts.endsFrom, Parts.namesFrom, Share.formOf, Share.shares}
 
 -- the short form
 

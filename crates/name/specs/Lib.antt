@@ -1,3 +1,2 @@
 pub mod Share
 pub mod Parts
-pub mod Claims

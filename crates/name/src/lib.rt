@@ -1,6 +1,6 @@
 // Names of the node table: which texts are names, and which names share a spelling.
 ghost use mathlib.Core.Path.{_≡_};
-ghost use Rattle.kind.specs.Class.{isCapital, isSmall};
+ghost use Rattle.kind.specs.Class.{isCapital};
 ghost use Rattle.util.specs.Decides.{Decides};
 ghost use Rattle.util.specs.Run.{run, runEnd};
 ghost use Rattle.mnemonic.specs.Mnemonic.{notSmall};
@@ -66,7 +66,7 @@ fn is_name_from(s: &[u8], at: usize) -> bool
     if capitals <= at {
         return false;
     }
-    let letters = skip_small(s, capitals);
+    let letters = util::skip_small(s, capitals);
     if util::stands(s, letters, b'0') {
         return false;
     }
@@ -80,20 +80,6 @@ fn skip_capitals(s: &[u8], at: usize) -> usize
     let mut end = at;
     while end < s.len() {
         if !kind::is_capital(s[end]) {
-            return end;
-        }
-        end += 1;
-    }
-    end
-}
-
-// The place behind the small letters from a place on.
-fn skip_small(s: &[u8], at: usize) -> usize
-    ensures { λ r. ⌜ r ≡ runEnd isSmall (now (s .entry)) at ⌝ }
-{
-    let mut end = at;
-    while end < s.len() {
-        if !kind::is_small(s[end]) {
             return end;
         }
         end += 1;

@@ -7,9 +7,8 @@ use mathlib.Core.Logic.{⊎-elim}
 use lib.Dec.{leb}
 use borrow.Author.Needs.{needs}
 use borrow.Author.Tests.{le-leb, lt-leb, lt-ltb, le-ltb}
-use Rattle.kind.proofs.Tests.{less-or-not}
+use Rattle.kind.proofs.{Tests.less-or-not, Classes.under, Classes.onward}
 use Rattle.kind.specs.Class.{isDigit}
-use Rattle.kind.proofs.Classes.{under, onward}
 use Rattle.number.specs.Digit.{digitOf, isDigitOf}
 
 module _ (b low high : ℕ) (h : low ≤ b) where

@@ -15,14 +15,10 @@ use mir.Val.{Fits}
 use Rattle.kind.proofs.Tests.{less-or-not}
 use Rattle.util.specs.Run.{run, runEnd}
 use Rattle.util.proofs.Runs.{run-past, run-stop, run-more}
-use Rattle.number.specs.Digit.{digitOf, isDigitOf}
+use Rattle.number.specs.{Digit.digitOf, Digit.isDigitOf, declared.Radix.Radix, declared.Unsigned.Unsigned, declared.Longer.Longer}
 use Rattle.number.specs.Number.{baseOf, digits, foundAt, longer, unsignedOf, unsignedAt}
-use Rattle.number.specs.declared.Radix.{Radix}
 use Rattle.number.specs.declared.Radix.the-variants.{Binary, Octal, Decimal, Hexadecimal}
-use Rattle.number.specs.declared.Unsigned.{Unsigned}
 use Rattle.number.specs.declared.Unsigned.the-variants.{Value, NoDigit, TooLarge}
-use Rattle.number.specs.declared.Longer.{Longer}
-use Rattle.number.specs.declared.Longer.the-variants as limited
 use Rattle.number.proofs.Values.{onward, taken, from-zero, no-less, last, past, more}
 
 -- each base is one of four
@@ -43,38 +39,38 @@ base-some′ radix base e = rw e (some-base radix)
 
 -- what became of a value with one more digit
 abbrev worth : Longer → ℕ
-worth (limited.Value v) = v
-worth limited.TooLarge = 0
+worth (Longer.Value v) = v
+worth Longer.TooLarge = 0
 
 abbrev isLarge : Longer → Bool
-isLarge (limited.Value v) = false
-isLarge limited.TooLarge = true
+isLarge (Longer.Value v) = false
+isLarge Longer.TooLarge = true
 
 module _ (n : ℕ) where
-  small : n < 2 ^ 64 → longer n ≡ limited.Value n
+  small : n < 2 ^ 64 → longer n ≡ Longer.Value n
   unfolding longer
   small h = rw (lt-ltb n (2 ^ 64) h)
 
-  large : 2 ^ 64 ≤ n → longer n ≡ limited.TooLarge
+  large : 2 ^ 64 ≤ n → longer n ≡ Longer.TooLarge
   unfolding longer
   large h = rw (le-ltb n (2 ^ 64) h)
 
   module _ (l : Longer) (e : l ≡ longer n) where
-    fits-value : (w : ℕ) → l ≡ limited.Value w → n ≡ w
+    fits-value : (w : ℕ) → l ≡ Longer.Value w → n ≡ w
     fits-value w f =
         ⊎-elim
         (λ k. ap worth (sym (small k) ∙ sym e ∙ f))
         (λ k. absurd (true≢false (ap isLarge (sym (large k) ∙ sym e ∙ f))))
         (less-or-not n (2 ^ 64))
 
-    value-small : (w : ℕ) → l ≡ limited.Value w → w < 2 ^ 64
+    value-small : (w : ℕ) → l ≡ Longer.Value w → w < 2 ^ 64
     value-small w f =
         ⊎-elim
         (λ k. rw (← fits-value w f) k)
         (λ k. absurd (true≢false (ap isLarge (sym (large k) ∙ sym e ∙ f))))
         (less-or-not n (2 ^ 64))
 
-    over-value : l ≡ limited.TooLarge → 2 ^ 64 ≤ n
+    over-value : l ≡ Longer.TooLarge → 2 ^ 64 ≤ n
     over-value f =
         ⊎-elim
         (λ k. absurd (false≢true (ap isLarge (sym (small k) ∙ sym e ∙ f))))
@@ -120,14 +116,14 @@ module _ (radix : Radix) (base : ℕ) (eb : base ≡ baseOf radix) (s : List ℕ
         next : onward base 0 (drop at s) ≡ onward base (value * base + digit) (drop (end + 1) s)
         next = values ∙ more base value s end h (is-digit k) ∙ rw ed
 
-        pub value-on′ : (w j : ℕ) → j ≡ end + 1 → (l : Longer) → l ≡ longer (value * base + digit) → l ≡ limited.Value w
+        pub value-on′ : (w j : ℕ) → j ≡ end + 1 → (l : Longer) → l ≡ longer (value * base + digit) → l ≡ Longer.Value w
             → onward base 0 (drop at s) ≡ onward base w (drop j s)
         value-on′ w j f l el ew = next ∙ rw (f, fits-value (value * base + digit) l el w ew)
 
-        pub value-fits′ : (w : ℕ) (l : Longer) → l ≡ longer (value * base + digit) → l ≡ limited.Value w → w < 2 ^ 64
+        pub value-fits′ : (w : ℕ) (l : Longer) → l ≡ longer (value * base + digit) → l ≡ Longer.Value w → w < 2 ^ 64
         value-fits′ w l el ew = value-small (value * base + digit) l el w ew
 
-        pub too-large′ : (l : Longer) → l ≡ longer (value * base + digit) → l ≡ limited.TooLarge → TooLarge ≡ unsignedAt radix s at
+        pub too-large′ : (l : Longer) → l ≡ longer (value * base + digit) → l ≡ Longer.TooLarge → TooLarge ≡ unsignedAt radix s at
         too-large′ l el ew =
             let m : 2 ^ 64 ≤ onward base 0 (drop at s) =
             omega (arith, next, over-value (value * base + digit) l el ew, no-less base (value * base + digit) (drop (end + 1) s) (rw eb (some-base radix))) in
@@ -144,7 +140,7 @@ module _ (value at end : ℕ) where
 
 -- a value with one more digit, against the largest that has room for one
 module _ (value digit base limit : ℕ) (e : limit ≡ (2 ^ 64 - 1) / base) where
-  pub no-room′ : 0 < base → limit < value → limited.TooLarge ≡ longer (value * base + digit)
+  pub no-room′ : 0 < base → limit < value → Longer.TooLarge ≡ longer (value * base + digit)
   no-room′ p k =
       let d : (2 ^ 64 - 1) / base < value = rw (← e) k in
       let m : 2 ^ 64 - 1 < value * base = div-lt-iff-lt-mul p .0 d in
@@ -160,14 +156,14 @@ module _ (value digit base limit : ℕ) (e : limit ≡ (2 ^ 64 - 1) / base) wher
     pub product-most′ : value * base ≤ 2 ^ 64 - 1
     product-most′ = scaled
 
-    pub no-room-last′ : 2 ^ 64 - 1 - value * base < digit → limited.TooLarge ≡ longer (value * base + digit)
+    pub no-room-last′ : 2 ^ 64 - 1 - value * base < digit → Longer.TooLarge ≡ longer (value * base + digit)
     no-room-last′ h = sym (large (value * base + digit) (omega (arith, scaled)))
 
     module _ (h : digit ≤ 2 ^ 64 - 1 - value * base) where
       pub sum-fits′ : Fits w64 (value * base + digit)
       sum-fits′ = record { fits = omega (arith, scaled) }
 
-      pub room′ : limited.Value (value * base + digit) ≡ longer (value * base + digit)
+      pub room′ : Longer.Value (value * base + digit) ≡ longer (value * base + digit)
       room′ = sym (small (value * base + digit) (omega (arith, scaled)))
 
 pub ruleset step = (needs, found-none′, found-some′, no-room′, product-fits′, product-most′, no-room-last′, sum-fits′, room′)

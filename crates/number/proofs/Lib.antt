@@ -3,4 +3,3 @@ pub mod Digits
 pub mod Values
 pub mod Laws
 pub mod Signs
-pub mod Claims

@@ -12,11 +12,7 @@ use mir.Val.{SFits, toZ, ofZ}
 use mir.ValLaws.{toZ-pos, toZ-ofZ}
 use Rattle.util.specs.Run.{signEnd, standsAt}
 use Rattle.number.specs.Number.{unsignedAt, signedOf, signedAt}
-use Rattle.number.specs.declared.Radix.the-variants.{Decimal}
-use Rattle.number.specs.declared.Unsigned.{Unsigned}
-use Rattle.number.specs.declared.Unsigned.the-variants as unsigned
-use Rattle.number.specs.declared.Signed.{Signed}
-use Rattle.number.specs.declared.Signed.the-variants as signed
+use Rattle.number.specs.{declared.Radix.the-variants.Decimal, declared.Unsigned.Unsigned, declared.Signed.Signed}
 
 fits-negative : (n : ℕ) → n < 2 ^ 63 → SFits w64 (negℤ (pos n))
 fits-negative zero h = record { sfits = h }
@@ -30,25 +26,25 @@ module _ (v end : ℕ) where
     pub minus-fits′ : SFits w64 (pos 0 -ℤ toZ w64 v)
     minus-fits′ = rw minus (fits-negative v h)
 
-    pub plus-is′ : signed.Value (toZ w64 v) end ≡ signedOf false (unsigned.Value v end)
+    pub plus-is′ : Signed.Value (toZ w64 v) end ≡ signedOf false (Unsigned.Value v end)
     unfolding signedOf
     plus-is′ = rw (lt-ltb v (2 ^ 63) h)
 
-    pub minus-is′ : signed.Value (toZ w64 (ofZ w64 (pos 0 -ℤ toZ w64 v))) end ≡ signedOf true (unsigned.Value v end)
+    pub minus-is′ : Signed.Value (toZ w64 (ofZ w64 (pos 0 -ℤ toZ w64 v))) end ≡ signedOf true (Unsigned.Value v end)
     unfolding signedOf
     minus-is′ =
         let k : v ≤ 2 ^ 63 = omega arith in
         rw (le-leb v (2 ^ 63) k, minus, toZ-ofZ w64 (negℤ (pos v)) (fits-negative v h))
 
-  pub plus-over′ : 2 ^ 63 ≤ v → signed.TooLarge ≡ signedOf false (unsigned.Value v end)
+  pub plus-over′ : 2 ^ 63 ≤ v → Signed.TooLarge ≡ signedOf false (Unsigned.Value v end)
   unfolding signedOf
   plus-over′ h = rw (le-ltb v (2 ^ 63) h)
 
-  pub minus-least′ : v ≡ 2 ^ 63 → signed.Value (negℤ (pos (2 ^ 63))) end ≡ signedOf true (unsigned.Value v end)
+  pub minus-least′ : v ≡ 2 ^ 63 → Signed.Value (negℤ (pos (2 ^ 63))) end ≡ signedOf true (Unsigned.Value v end)
   unfolding signedOf
   minus-least′ e = rw e
 
-  pub minus-over′ : 2 ^ 63 ≤ v → (v ≡ 2 ^ 63 → ⊥) → signed.TooLarge ≡ signedOf true (unsigned.Value v end)
+  pub minus-over′ : 2 ^ 63 ≤ v → (v ≡ 2 ^ 63 → ⊥) → Signed.TooLarge ≡ signedOf true (Unsigned.Value v end)
   unfolding signedOf
   minus-over′ h n =
       let k : 2 ^ 63 < v = omega (arith, n) in
@@ -58,16 +54,16 @@ module _ (s : List ℕ) (at from : ℕ) (e : from ≡ signEnd s at) (u : Unsigne
   read : u ≡ unsignedAt Decimal s (signEnd s at)
   read = rw (← e) eu
 
-  pub none-read′ : u ≡ unsigned.NoDigit → signed.NoDigit ≡ signedAt s at
+  pub none-read′ : u ≡ Unsigned.NoDigit → Signed.NoDigit ≡ signedAt s at
   unfolding signedAt signedOf
   none-read′ q = rw (← read, q)
 
-  pub over-read′ : u ≡ unsigned.TooLarge → signed.TooLarge ≡ signedAt s at
+  pub over-read′ : u ≡ Unsigned.TooLarge → Signed.TooLarge ≡ signedAt s at
   unfolding signedAt signedOf
   over-read′ q = rw (← read, q)
 
-  pub value-read′ : (v end : ℕ) → u ≡ unsigned.Value v end → (m : Bool) → m ≡ standsAt 45 s at → (b : Bool) → m ≡ b
-      → (r : Signed) → r ≡ signedOf b (unsigned.Value v end) → r ≡ signedAt s at
+  pub value-read′ : (v end : ℕ) → u ≡ Unsigned.Value v end → (m : Bool) → m ≡ standsAt 45 s at → (b : Bool) → m ≡ b
+      → (r : Signed) → r ≡ signedOf b (Unsigned.Value v end) → r ≡ signedAt s at
   unfolding signedAt
   value-read′ v end q m em b eb r er = er ∙ rw (← read, q, ← em, eb)
 

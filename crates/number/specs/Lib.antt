@@ -1,3 +1,2 @@
 pub mod Digit
 pub mod Number
-pub mod Claims

@@ -6,23 +6,17 @@ use mathlib.Core.Bool.{Bool, true, false, not}
 use lib.ListN.{length, getD}
 use borrow.Author.Needs.{needs}
 use borrow.Author.Tests.{le-leb, lt-leb, lt-ltb, le-ltb, eq-eqb, ne-eqb, not-true, not-false}
-use Rattle.error.specs.declared.ErrorCode.{ErrorCode}
-use Rattle.error.specs.declared.ErrorCode.the-variants.{InvalidExpression}
+use Rattle.error.specs.{declared.ErrorCode.ErrorCode, declared.ErrorCode.the-variants.InvalidExpression}
 use Rattle.kind.specs.Class.{isDigit}
 use Rattle.util.specs.Run.{standsAt}
-use Rattle.token.specs.View.{viewOf}
-use Rattle.token.specs.declared.View.{View}
+use Rattle.token.specs.{View.viewOf, declared.View.View}
 use Rattle.token.specs.declared.Token as token
 use Rattle.item.specs.declared.Read.{Read}
-use Rattle.item.specs.declared.Read.the-variants as read
 use Rattle.decimal.specs.Decimal.{nrf}
 use Rattle.numeric_list.specs.List.{stateOf, taken, refusal, rangeBy, rangeTo, itemBy, itemAt, begins, commaBefore, step, stepAt}
-use Rattle.numeric_list.specs.declared.State.{State}
-use Rattle.numeric_list.specs.declared.Token.{Token}
-use Rattle.numeric_list.specs.declared.Token.the-variants.{Numeric, NumericRange}
+use Rattle.numeric_list.specs.{declared.State.State, declared.Token.Token}
+use Rattle.numeric_list.specs.{declared.Token.the-variants.Numeric, declared.Token.the-variants.NumericRange, declared.Front.Front}
 use Rattle.numeric_list.specs.declared.Answer.the-variants as answer
-use Rattle.numeric_list.specs.declared.Front.{Front}
-use Rattle.numeric_list.specs.declared.Front.the-variants as front
 use Rattle.numeric_list.specs.declared.Step.{Step}
 
 pub taken-is′ : (t : Token) (next : ℕ) → record { answer = answer.Token t; state = stateOf next false } ≡ taken t next
@@ -54,19 +48,19 @@ module _ (b : ℕ) (first d : Bool) (ed : d ≡ isDigit b) where
 module _ (s : List ℕ) (st : State) (at : ℕ) (x : Step) where
   -- a number from the place on, by what was read there
   module _ (r : Read) (er : r ≡ nrf s at) where
-    pub range-well′ : (begin : View) (t : token.Token) (next : ℕ) → r ≡ read.Token t next → x ≡ taken (NumericRange begin (viewOf at next)) next → x ≡ rangeTo s st at begin
+    pub range-well′ : (begin : View) (t : token.Token) (next : ℕ) → r ≡ Read.Token t next → x ≡ taken (NumericRange begin (viewOf at next)) next → x ≡ rangeTo s st at begin
     unfolding rangeTo rangeBy
     range-well′ begin t next e ex = ex ∙ rw (← er, e)
 
-    pub range-ill′ : (begin : View) (e : ErrorCode) → r ≡ read.Refused e → x ≡ refusal s st → x ≡ rangeTo s st at begin
+    pub range-ill′ : (begin : View) (e : ErrorCode) → r ≡ Read.Refused e → x ≡ refusal s st → x ≡ rangeTo s st at begin
     unfolding rangeTo rangeBy
     range-ill′ begin e q ex = ex ∙ rw (← er, q)
 
-    pub item-ill′ : (e : ErrorCode) → r ≡ read.Refused e → x ≡ refusal s st → x ≡ itemAt s st at
+    pub item-ill′ : (e : ErrorCode) → r ≡ Read.Refused e → x ≡ refusal s st → x ≡ itemAt s st at
     unfolding itemAt itemBy
     item-ill′ e q ex = ex ∙ rw (← er, q)
 
-    module _ (t : token.Token) (next : ℕ) (e : r ≡ read.Token t next) where
+    module _ (t : token.Token) (next : ℕ) (e : r ≡ Read.Token t next) where
       pub item-last′ : length s ≤ next → x ≡ taken (Numeric (viewOf at next)) next → x ≡ itemAt s st at
       unfolding itemAt itemBy standsAt
       item-last′ h ex = ex ∙ rw (← er, e, le-ltb next (length s) h)
@@ -88,29 +82,29 @@ module _ (s : List ℕ) (st : State) where
   -- where its item begins
   module _ (h : st .place < length s) where
     module _ (e : getD s (st .place) 0 ≡ 44) where
-      pub front-first′ : st .first ≡ true → stepAt s st front.Refused ≡ step s st
+      pub front-first′ : st .first ≡ true → stepAt s st Front.Refused ≡ step s st
       unfolding step stepAt commaBefore
       front-first′ f = rw (lt-leb (length s) (st .place) h, eq-eqb (getD s (st .place) 0) 44 e, f)
 
-      pub front-behind′ : st .first ≡ false → stepAt s st (front.Item (st .place + 1)) ≡ step s st
+      pub front-behind′ : st .first ≡ false → stepAt s st (Front.Item (st .place + 1)) ≡ step s st
       unfolding step stepAt commaBefore
       front-behind′ f = rw (lt-leb (length s) (st .place) h, eq-eqb (getD s (st .place) 0) 44 e, f)
 
     module _ (n : getD s (st .place) 0 ≡ 44 → ⊥) (r : Bool) (er : r ≡ begins (getD s (st .place) 0) (st .first)) where
-      pub front-other′ : not r ≡ true → stepAt s st front.Refused ≡ step s st
+      pub front-other′ : not r ≡ true → stepAt s st Front.Refused ≡ step s st
       unfolding step stepAt
       front-other′ q = rw (lt-leb (length s) (st .place) h, ne-eqb (getD s (st .place) 0) 44 n, ← er, not-true r q)
 
-      pub front-here′ : not r ≡ false → stepAt s st (front.Item (st .place)) ≡ step s st
+      pub front-here′ : not r ≡ false → stepAt s st (Front.Item (st .place)) ≡ step s st
       unfolding step stepAt
       front-here′ q = rw (lt-leb (length s) (st .place) h, ne-eqb (getD s (st .place) 0) 44 n, ← er, not-false r q)
 
   module _ (f : Front) (e : stepAt s st f ≡ step s st) (x : Step) where
-    pub item′ : (at : ℕ) → f ≡ front.Item at → x ≡ itemAt s st at → x ≡ step s st
+    pub item′ : (at : ℕ) → f ≡ Front.Item at → x ≡ itemAt s st at → x ≡ step s st
     unfolding stepAt
     item′ at k ex = ex ∙ rw k at e
 
-    pub refused′ : f ≡ front.Refused → x ≡ refusal s st → x ≡ step s st
+    pub refused′ : f ≡ Front.Refused → x ≡ refusal s st → x ≡ step s st
     unfolding stepAt
     refused′ k ex = ex ∙ rw k at e
 

@@ -5,8 +5,7 @@ use mathlib.Core.Bool.{true, false}
 use native.Mathlib.Omega.{arith}
 use lib.Dec.{eqb}
 use borrow.Author.Needs.{needs}
-use Rattle.record.specs.Word.{wordOf, recordIn}
-use Rattle.record.specs.declared.Record.{Record}
+use Rattle.record.specs.{Word.wordOf, Word.recordIn, declared.Record.Record}
 
 module _ (u : Record) (h : u .command < 65536) where
   pub event′ : u .query ≡ false → u .command * 2 ^ 48 % 2 ^ 64 + u .branch % 65536 * 2 ^ 31 % 2 ^ 64 + u .items % 65536 * 2 ^ 15 % 2 ^ 64 ≡ wordOf u

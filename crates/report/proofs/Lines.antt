@@ -10,16 +10,12 @@ use mir.Syntax.{w16}
 use mir.Val.{SFits, toZ, ofZ}
 use mir.ValLaws.{toZ-ofZ}
 use Rattle.io.specs.Counts.{Counts}
-use Rattle.error.specs.Code.{codeOf}
-use Rattle.error.specs.declared.ErrorCode.{ErrorCode}
+use Rattle.error.specs.{Code.codeOf, declared.ErrorCode.ErrorCode}
 use Rattle.kind.specs.Text.{ascii}
 use Rattle.record.specs.declared.Record.{Record}
-use Rattle.report.specs.Added.{Added}
-use Rattle.report.specs.Number.{decimal, signed}
+use Rattle.report.specs.{Added.Added, Number.decimal, Number.signed, declared.units.Told.Told}
 use Rattle.report.specs.Units.{pairText, formText, unitText, stopText, totalText, lineText}
-use Rattle.report.specs.declared.units.Told.{Told}
-use Rattle.report.proofs.Adds.{join, join3}
-use Rattle.report.proofs.Steps.{counted′, ends′}
+use Rattle.report.proofs.{Adds.join, Adds.join3, Steps.counted′, Steps.ends′}
 
 module _ (l o p q : List ℕ) (at a b r : ℕ) where
   pub pair′ : (n m : ℕ) → Added l at (decimal n) o a → Added o a (ascii " ") p b → Added p b (decimal m) q r → Added l at (pairText n m) q r

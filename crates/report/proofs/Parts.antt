@@ -6,11 +6,9 @@ use mathlib.Core.Bool.{Bool, true, false, not}
 use borrow.Author.Needs.{needs}
 use borrow.Author.Tests.{not-true, not-false}
 use Rattle.kind.specs.Text.{ascii}
-use Rattle.token.specs.declared.View.{View}
-use Rattle.token.specs.declared.Token.{Token}
+use Rattle.token.specs.{declared.View.View, declared.Token.Token}
 use Rattle.token.specs.declared.Token.the-variants.{DecimalNumericSuffixProgramData, NonDecimalNumericProgramData}
-use Rattle.report.specs.Added.{Added}
-use Rattle.report.specs.Number.{decimal}
+use Rattle.report.specs.{Added.Added, Number.decimal}
 use Rattle.report.specs.Tokens.{viewText, tokenText, placeText, flagsText}
 use Rattle.report.proofs.Adds.{join, join3}
 

@@ -13,8 +13,7 @@ use borrow.Author.Tests.{ltb-true}
 use mir.Syntax.{w16, w64}
 use mir.Val.{Fits, SFits, toZ, ofZ}
 use mir.ValLaws.{toZ-ofZ}
-use Rattle.report.specs.Added.{Added}
-use Rattle.report.specs.Number.{decimal, signed}
+use Rattle.report.specs.{Added.Added, Number.decimal, Number.signed}
 use Rattle.report.proofs.Adds.{join}
 
 -- the other number as far from zero

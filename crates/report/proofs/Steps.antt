@@ -9,14 +9,11 @@ use borrow.Author.Needs.{needs}
 use mir.Syntax.{w16}
 use mir.Val.{SFits, toZ, ofZ}
 use mir.ValLaws.{toZ-ofZ}
-use Rattle.error.specs.Code.{codeOf}
-use Rattle.error.specs.declared.ErrorCode.{ErrorCode}
+use Rattle.error.specs.{Code.codeOf, declared.ErrorCode.ErrorCode}
 use Rattle.kind.specs.Text.{ascii}
 use Rattle.token.specs.declared.Token.{Token}
-use Rattle.tokenizer.specs.declared.State.{State}
-use Rattle.tokenizer.specs.declared.Answer.{Answer}
-use Rattle.report.specs.Added.{Added}
-use Rattle.report.specs.Number.{signed}
+use Rattle.tokenizer.specs.{declared.State.State, declared.Answer.Answer}
+use Rattle.report.specs.{Added.Added, Number.signed}
 use Rattle.report.specs.Tokens.{tokenText, placeText, flagsText, takenText, endText, refusedText, answerText}
 use Rattle.report.proofs.Adds.{join, join3}
 

@@ -3,3 +3,4 @@ pub mod Claims
 pub mod Number
 pub mod Tokens
 pub mod Units
+pub mod Line

@@ -2,8 +2,7 @@
 use mathlib.Core.Path.{refl}
 use Rattle.kind.specs.Class.{isWhiteSpace, isDigit}
 use Rattle.util.specs.Run.{run, runEnd}
-use Rattle.request.specs.Claims.{Rows, Claims}
-use Rattle.request.specs.Field.{fieldAt}
+use Rattle.request.specs.{Claims.Rows, Claims.Claims, Field.fieldAt}
 use Rattle.number.specs.Digit.{digitOf, isDigitOf}
 use Rattle.request.specs.Hex.{arePairs, bytesOf, isDash, textOf}
 use Rattle.request.proofs.Texts.{until}

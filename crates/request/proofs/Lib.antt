@@ -4,3 +4,8 @@ pub mod Fields
 pub mod Pairs
 pub mod Texts
 pub mod Claims
+pub mod Finds
+pub mod Numbers
+pub mod Pieces
+pub mod Stores
+pub mod TableClaims

@@ -17,8 +17,7 @@ use mir.Val.{Fits}
 use Rattle.kind.proofs.Tests.{and-left, and-right}
 use Rattle.number.specs.Digit.{digitOf}
 use Rattle.request.specs.Hex.{isHex, arePairs, bytesOf, isDash}
-use Rattle.request.specs.Unhex.{Outcome, written}
-use Rattle.request.specs.declared.Text.the-variants.{Until}
+use Rattle.request.specs.{Unhex.Outcome, Unhex.written, declared.Text.the-variants.Until}
 use Rattle.request.proofs.Digits.{hex, no-hex, value}
 
 -- the front of a part
@@ -53,24 +52,25 @@ even [] e = refl
 even (x ∷ []) e = absurd (let z : _≡_ {A = ℕ} 0 1 = cc in omega arith)
 even (x ∷ y ∷ t) e = omega (arith, even t (both (isHex x) (isHex y) (arePairs t) e .2))
 
+-- `-` alone.
+pub no-dash′ : (s : List ℕ) → (length s ≡ 1 → ⊥) → false ≡ isDash s
+unfolding isDash
+no-dash′ [] n = refl
+no-dash′ (b ∷ []) n = absurd (n refl)
+no-dash′ (b ∷ c ∷ s) n = refl
+
+pub dash′ : (s : List ℕ) → length s ≡ 1 → eqb (getD s 0 0) 45 ≡ isDash s
+unfolding isDash
+dash′ [] e = absurd (omega arith)
+dash′ (b ∷ []) e = refl
+dash′ (b ∷ c ∷ s) e = absurd (omega arith)
+
 module _ (s : List ℕ) (from to : ℕ) (l : to ≤ length s) where
   pub bytes-length : length (bytesOf (slice from to s)) ≡ (to - from) / 2
   bytes-length = halved (slice from to s) ∙ ap (λ (n : ℕ). n / 2) (length-slice from to s l)
 
   pub even′ : arePairs (slice from to s) ≡ true → (to - from) % 2 ≡ 0
   even′ e = rw length-slice at (even (slice from to s) e)
-
-  pub no-dash′ : from ≤ to → (to - from ≡ 1 → ⊥) → false ≡ isDash (slice from to s)
-  unfolding isDash
-  no-dash′ h n =
-      ⊎-elim
-      (λ e. rw (none s from to l e))
-      (λ k. rw (two s from to l (omega arith)))
-      (eq-or-lt-of-le h)
-
-  pub dash′ : to - from ≡ 1 → eqb (getD s from 0) 45 ≡ isDash (slice from to s)
-  unfolding isDash
-  dash′ e = rw (one s from to l (omega arith) (omega arith))
 
   module _ (i : ℕ) (inv : arePairs (slice from to s) ≡ arePairs (slice i to s)) where
     module _ (h : 2 ≤ to - i) where

@@ -13,7 +13,7 @@ use borrow.Author.Tests.{le-leb, lt-leb, leb-true, not-true, not-false}
 use Rattle.request.specs.Hex.{arePairs, bytesOf, isDash, textOf}
 use Rattle.request.specs.Unhex.{Outcome, refused, written, put, unhexed}
 use Rattle.request.specs.declared.Text.the-variants.{Until, Bad}
-use Rattle.request.proofs.Pairs.{bytes-length}
+use Rattle.request.proofs.{Pairs.bytes-length, Numbers.part}
 
 pub pairs′ : (s : List ℕ) (from to : ℕ) (p : Bool) → p ≡ arePairs (slice from to s) → not p ≡ false → arePairs (slice from to s) ≡ true
 pairs′ s from to p e q = sym e ∙ not-false p q
@@ -36,7 +36,10 @@ module _ (s : List ℕ) (from to : ℕ) (o : List ℕ) (at : ℕ) where
   unfolding unhexed
   no-room′ h = no-room _ h
 
-  module _ (h : from ≤ to) (l : to ≤ length s) (d : Bool) (ed : d ≡ isDash (slice from to s)) where
+  module _ (h : from ≤ to) (l : to ≤ length s) (t : List ℕ) (et : t ≡ take (to - from) (drop from s)) (d : Bool) (et-d : d ≡ isDash t) where
+    ed : d ≡ isDash (slice from to s)
+    ed = et-d ∙ ap isDash (et ∙ part s from to h l)
+
     pub empty′ : at ≤ length o → d ≡ true → record { says = Until at; slots = o } ≡ unhexed s from to o at
     unfolding unhexed put textOf
     empty′ k q =

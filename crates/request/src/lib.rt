@@ -8,8 +8,16 @@ ghost use Rattle.util.specs.Run.{runEnd};
 ghost use Rattle.request.specs.Field.{isInk, fieldAt};
 ghost use Rattle.request.specs.Hex.{arePairs, bytesOf, isDash};
 ghost use Rattle.request.specs.Unhex.{Outcome, unhexed, written};
+
+mod table;
+
 use kind::is_white_space;
 use number::digit_value;
+pub use table::Number;
+pub use table::Words;
+pub use table::read_number;
+pub use table::read_words;
+pub use table::slash;
 use util::skip_ws;
 
 // A part of a line, from its start up to its end.
@@ -62,7 +70,7 @@ pub fn unhex(line: &[u8], from: usize, to: usize, out: &mut [u8], at: usize) -> 
     if out.len() < at {
         return Text::Bad;
     }
-    if is_dash(line, from, to) {
+    if is_dash(&line[from..to]) {
         return Text::Until(at);
     }
     if !are_pairs(line, from, to) {
@@ -74,15 +82,14 @@ pub fn unhex(line: &[u8], from: usize, to: usize, out: &mut [u8], at: usize) -> 
     Text::Until(write_bytes(line, from, to, out, at))
 }
 
-// Whether a part of the line is `-` alone.
-fn is_dash(line: &[u8], from: usize, to: usize) -> bool
-    requires { ⌜ (from ≤ to) × (to ≤ length (now line)) ⌝ }
-    ensures { λ r. ⌜ r ≡ isDash (slice from to (now (line .entry))) ⌝ }
+// Whether a text is `-` alone.
+fn is_dash(s: &[u8]) -> bool
+    ensures { λ r. ⌜ r ≡ isDash (now (s .entry)) ⌝ }
 {
-    if to - from != 1 {
+    if s.len() != 1 {
         return false;
     }
-    line[from] == b'-'
+    s[0] == b'-'
 }
 
 // Whether a part of the line is pairs of hex digits.

@@ -6,4 +6,3 @@ pub mod Mnemonics
 pub mod Tails
 pub mod Names
 pub mod Nodes
-pub mod Claims

@@ -17,7 +17,7 @@ use Rattle.mnemonic.specs.Mnemonic.{pairs, eitherCase, alike, notSmall, mayLeav
 use Rattle.mnemonic.proofs.Bytes.{small-left-out, capital-needed, digit-needed}
 use Rattle.mnemonic.proofs.Pairs.{long, differ}
 use Rattle.mnemonic.proofs.Match.{none-some′, some-none′, some-some′}
-use Rattle.mnemonic.proofs.Alike.{Ends, ends-behind, suffix-itself, start-behind}
+use Rattle.names.proofs.Alike.{Ends, ends-behind, suffix-itself, start-behind}
 use Rattle.spoken.specs.Internal.{opens, Form, short-form, long-form}
 use Rattle.spoken.proofs.Bytes.{letter-no-digit, one-letter, small-letter, letter-apart, digit-apart}
 

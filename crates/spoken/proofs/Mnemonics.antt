@@ -10,22 +10,15 @@ use lib.ListN.{length, getD, take, drop, length-drop, drop-of-length-le}
 use lib.Seq.{drop-cons, drop-drop, getD-drop, length-take-le, take-append-add}
 use borrow.Author.Needs.{needs}
 use borrow.Author.Tests.{leb-false, le-leb, lt-leb, lt-ltb, le-ltb, ltb-true}
-use Rattle.error.specs.declared.ErrorCode.{ErrorCode}
-use Rattle.error.specs.declared.ErrorCode.the-variants.{ProgramMnemonicTooLong}
+use Rattle.error.specs.{declared.ErrorCode.ErrorCode, declared.ErrorCode.the-variants.ProgramMnemonicTooLong}
 use Rattle.kind.specs.Class.{isLetter, inMnemonic}
 use Rattle.kind.proofs.Tests.{either, and-left, and-right, and-both, clash, less-or-not}
 use Rattle.util.specs.Run.{run, runEnd, standsAt, every}
 use Rattle.util.proofs.Every.{every-weaker, run-within}
 use Rattle.mnemonic.specs.Mnemonic.{matches}
-use Rattle.token.specs.View.{partOf, viewOf}
-use Rattle.token.specs.declared.Token.{Token}
-use Rattle.token.specs.declared.Token.the-variants.{ProgramMnemonic}
-use Rattle.item.specs.Follow.{token, refused}
-use Rattle.item.specs.Word.{starEnd, mnemonic}
-use Rattle.item.specs.declared.Read.{Read}
-use Rattle.item.specs.declared.Read.the-variants as read
-use Rattle.spoken.specs.Spoken.{spelledAs, spelledAt}
-use Rattle.spoken.specs.Internal.{opens, goesOnAt}
+use Rattle.token.specs.{View.partOf, View.viewOf, declared.Token.Token, declared.Token.the-variants.ProgramMnemonic}
+use Rattle.item.specs.{Follow.token, Follow.refused, Word.starEnd, Word.mnemonic, declared.Read.Read}
+use Rattle.spoken.specs.{Spoken.spelledAs, Spoken.spelledAt, Internal.opens, Internal.goesOnAt}
 use Rattle.spoken.specs.declared.Spelled.the-variants as spelled
 use Rattle.spoken.proofs.Bytes.{letter-in, goes-on-at}
 
@@ -173,11 +166,11 @@ module _ (s : List ℕ) (at : ℕ) (v : List ℕ) (place : ℕ) (text : drop at 
 -- the whole mnemonic read and compared
 
 module _ (x s : List ℕ) (at : ℕ) (r : Read) (e : r ≡ mnemonic s at) where
-  pub refused′ : (c : ErrorCode) → r ≡ read.Refused c → spelled.Not ≡ spelledAt x s at
+  pub refused′ : (c : ErrorCode) → r ≡ Read.Refused c → spelled.Not ≡ spelledAt x s at
   unfolding spelledAt
   refused′ c q = rw (← e, q)
 
-  module _ (t : Token) (next : ℕ) (q : r ≡ read.Token t next) where
+  module _ (t : Token) (next : ℕ) (q : r ≡ Read.Token t next) where
     pub no-character′ : next ≤ at → spelled.Not ≡ spelledAt x s at
     unfolding spelledAt
     no-character′ h = rw (← e, q, le-ltb at next h)
@@ -188,10 +181,10 @@ module _ (x s : List ℕ) (at : ℕ) (r : Read) (e : r ≡ mnemonic s at) where
       next-is = go (leb (mnemonicEnd s at - at) 12) (sym q ∙ e)
         where
           nextOf : Read → ℕ
-          nextOf (read.Token t n) = n
-          nextOf (read.Refused c) = at
+          nextOf (Read.Token t n) = n
+          nextOf (Read.Refused c) = at
 
-          go : (b : Bool) → read.Token t next ≡ cond b (token (ProgramMnemonic (viewOf at (mnemonicEnd s at))) (mnemonicEnd s at)) (refused ProgramMnemonicTooLong) → next ≡ mnemonicEnd s at
+          go : (b : Bool) → Read.Token t next ≡ cond b (token (ProgramMnemonic (viewOf at (mnemonicEnd s at))) (mnemonicEnd s at)) (refused ProgramMnemonicTooLong) → next ≡ mnemonicEnd s at
           go true f = ap nextOf f
           go false f = absurd (omega (arith, l, ap nextOf f))
 

@@ -19,8 +19,7 @@ use Rattle.util.specs.Run.{run, runEnd, every}
 use Rattle.util.proofs.Every.{every-join, every-weaker, every-run-front}
 use Rattle.util.proofs.Runs.{run-again, run-more, run-from}
 use Rattle.mnemonic.specs.Mnemonic.{pairs, eitherCase, alike, notSmall}
-use Rattle.mnemonic.proofs.Bytes.{capital-not-small, small-is-small}
-use Rattle.mnemonic.proofs.Match.{apart}
+use Rattle.mnemonic.proofs.{Bytes.capital-not-small, Bytes.small-is-small, Match.apart}
 use Rattle.spoken.specs.Spoken.{letterAt, spelledAt}
 use Rattle.spoken.specs.Internal.{agrees, beginAlike, common, departsAt, opens, short-form, long-form, Reached}
 use Rattle.spoken.specs.declared.Spelled.the-variants as spelled

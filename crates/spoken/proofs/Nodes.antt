@@ -15,17 +15,14 @@ use Rattle.util.specs.Run.{least}
 use Rattle.util.proofs.Runs.{least-le, not-least}
 use Rattle.util.proofs.Before.{Before, none-yet, one-more}
 use Rattle.mnemonic.specs.Mnemonic.{pairs, compares, numericSuffixStart, matches, beginsOtherwise}
-use Rattle.mnemonic.proofs.Match.{begin-unlike}
-use Rattle.mnemonic.proofs.Split.{stem-some}
+use Rattle.mnemonic.proofs.{Match.begin-unlike, Split.stem-some}
 use Rattle.token.specs.View.{partOf, viewOf}
 use Rattle.node.specs.Word.{nameStart, nameLength, nameIn, initialIn}
 use Rattle.node.specs.Tree.{nameOf}
 use Rattle.branch.specs.Block.{nextChild}
 use Rattle.branch.proofs.Blocks.{next-in′}
 use Rattle.spoken.specs.Spoken.{spelledAt, Spells, first-spelled, none-spelled}
-use Rattle.spoken.specs.Internal.{beginAlike}
-use Rattle.spoken.specs.declared.Spelled.{Spelled}
-use Rattle.spoken.specs.declared.Spelled.the-variants as spelled
+use Rattle.spoken.specs.{Internal.beginAlike, declared.Spelled.Spelled}
 use Rattle.spoken.specs.declared.Spoken.the-variants as spoken
 use Rattle.spoken.proofs.Mnemonics.{mnemonicEnd, part-is, end-within, unspelled}
 
@@ -35,7 +32,7 @@ unfolding matches compares pairs
 nameless d w = rw (take-nil (numericSuffixStart []), stem-some d w .1)
 
 -- a name that begins otherwise than the text, or is empty
-unlike : (x s : List ℕ) (at : ℕ) → ((d : ℕ) (w : List ℕ) → d ≡ getD s at 0 → matches x (d ∷ w) ≡ false) → spelled.Not ≡ spelledAt x s at
+unlike : (x s : List ℕ) (at : ℕ) → ((d : ℕ) (w : List ℕ) → d ≡ getD s at 0 → matches x (d ∷ w) ≡ false) → Spelled.Not ≡ spelledAt x s at
 unlike x s at h = unspelled s at x (go (less-or-not at (mnemonicEnd s at)))
   where
     go : (at < mnemonicEnd s at) ⊎ (mnemonicEnd s at ≤ at) → (ltb at (mnemonicEnd s at) && matches x (partOf s (viewOf at (mnemonicEnd s at)))) ≡ false
@@ -46,11 +43,11 @@ unlike x s at h = unspelled s at x (go (less-or-not at (mnemonicEnd s at)))
         let e : partOf s (viewOf at (mnemonicEnd s at)) ≡ getD s at 0 ∷ w = part-is s at l ∙ rw (n, drop-cons s at 0 (omega (arith, l, end-within s at l))) refl in
         rw (e, h (getD s at 0) w refl) (and-false (ltb at (mnemonicEnd s at)))
 
-pub empty-not : (x s : List ℕ) (at : ℕ) → length x ≡ 0 → spelled.Not ≡ spelledAt x s at
+pub empty-not : (x s : List ℕ) (at : ℕ) → length x ≡ 0 → Spelled.Not ≡ spelledAt x s at
 empty-not [] s at h = unlike [] s at (λ d w e. nameless d w)
 empty-not (c ∷ x) s at h = absurd (omega (arith, h))
 
-other-first : (x s : List ℕ) (at : ℕ) → (getD x 0 0 % 32 ≡ getD s at 0 % 32 → ⊥) → spelled.Not ≡ spelledAt x s at
+other-first : (x s : List ℕ) (at : ℕ) → (getD x 0 0 % 32 ≡ getD s at 0 % 32 → ⊥) → Spelled.Not ≡ spelledAt x s at
 unfolding beginsOtherwise
 other-first [] s at h = empty-not [] s at refl
 other-first (c ∷ x) s at h =
@@ -73,14 +70,14 @@ name-first names w = go (leb (nameStart w + nameLength w) (length names)) refl
 -- the name of one node
 
 module _ (names : List ℕ) (w : ℕ) (s : List ℕ) (at f : ℕ) (ef : f ≡ getD s at 0) where
-  pub passed-over′ : (i : ℕ) → i ≡ initialIn names w → (i % 32 ≡ f % 32 → ⊥) → spelled.Not ≡ spelledAt (nameIn names w) s at
+  pub passed-over′ : (i : ℕ) → i ≡ initialIn names w → (i % 32 ≡ f % 32 → ⊥) → Spelled.Not ≡ spelledAt (nameIn names w) s at
   passed-over′ i ei h =
       ⊎-elim (empty-not (nameIn names w) s at)
       (λ e. other-first (nameIn names w) s at (λ q. h (ap (λ (k : ℕ). k % 32) (ei ∙ sym e) ∙ q ∙ ap (λ (k : ℕ). k % 32) (sym ef))))
       (name-first names w)
 
   module _ (x : List ℕ) (ex : x ≡ nameIn names w) where
-    pub no-name′ : length x ≡ 0 → spelled.Not ≡ spelledAt (nameIn names w) s at
+    pub no-name′ : length x ≡ 0 → Spelled.Not ≡ spelledAt (nameIn names w) s at
     no-name′ h = empty-not (nameIn names w) s at (rw ex at h)
 
     pub by-name′ : (o : Spelled) → o ≡ spelledAt x s at → o ≡ spelledAt (nameIn names w) s at
@@ -94,10 +91,10 @@ pub ruleset node-laws = (needs, passed-over′, no-name′, by-name′, name-beg
 -- the nodes of a block
 
 abbrev pub Passed : List ℕ → List ℕ → List ℕ → ℕ → ℕ → ℕ → Type 0
-Passed t names s at from k = Before (λ j. spelledAt (nameOf t names j) s at ≡ spelled.Not) from k
+Passed t names s at from k = Before (λ j. spelledAt (nameOf t names j) s at ≡ Spelled.Not) from k
 
 -- past the table there is no name
-past-not : (t names s : List ℕ) (at k : ℕ) → length t ≤ k → spelledAt (nameOf t names k) s at ≡ spelled.Not
+past-not : (t names s : List ℕ) (at k : ℕ) → length t ≤ k → spelledAt (nameOf t names k) s at ≡ Spelled.Not
 unfolding nameIn nameLength
 past-not t names s at k h = rw (List·getD-eq-default t 0 h) (sym (empty-not (nameIn names 0) s at (go (leb (nameStart 0 + nameLength 0) (length names)))))
   where
@@ -107,7 +104,7 @@ past-not t names s at k h = rw (List·getD-eq-default t 0 h) (sym (empty-not (na
 
 module _ (t names s : List ℕ) (from to at e : ℕ) where
   pub block-begins′ : Passed t names s at from from
-  block-begins′ = none-yet (λ j. spelledAt (nameOf t names j) s at ≡ spelled.Not) from
+  block-begins′ = none-yet (λ j. spelledAt (nameOf t names j) s at ≡ Spelled.Not) from
 
   module _ (h : e ≡ least to (length t)) (k : ℕ) where
     pub block-inside′ : k < e → k < length t
@@ -120,17 +117,17 @@ module _ (t names s : List ℕ) (from to at e : ℕ) where
       pub block-over′ : e ≤ k → Spells t names s from to at spoken.None
       block-over′ l = none-spelled (λ j low high. go j (less-or-not j k) (not-least to (length t) k (omega (arith, h))) low high)
         where
-          go : (j : ℕ) → (j < k) ⊎ (k ≤ j) → (to ≤ k) ⊎ (length t ≤ k) → from ≤ j → j < to → spelledAt (nameOf t names j) s at ≡ spelled.Not
+          go : (j : ℕ) → (j < k) ⊎ (k ≤ j) → (to ≤ k) ⊎ (length t ≤ k) → from ≤ j → j < to → spelledAt (nameOf t names j) s at ≡ Spelled.Not
           go j (inl x) y low high = inv .all j low x
           go j (inr x) (inl y) low high = absurd (omega arith)
           go j (inr x) (inr y) low high = past-not t names s at j (omega arith)
 
       module _ (l : k < e) (o : Spelled) (q : o ≡ spelledAt (nameOf t names k) s at) where
-        pub block-found′ : (next : ℕ) → o ≡ spelled.To next → Spells t names s from to at (spoken.Node k next)
+        pub block-found′ : (next : ℕ) → o ≡ Spelled.To next → Spells t names s from to at (spoken.Node k next)
         block-found′ next y = first-spelled (inv .low) (omega (arith, h, least-le to (length t) .0)) (sym q ∙ y) (inv .all)
 
-        pub block-more′ : o ≡ spelled.Not → (i : ℕ) → i ≡ nextChild t k → Passed t names s at from i
+        pub block-more′ : o ≡ Spelled.Not → (i : ℕ) → i ≡ nextChild t k → Passed t names s at from i
         block-more′ y i n =
-            one-more (λ j. spelledAt (nameOf t names j) s at ≡ spelled.Not) from k inv (sym q ∙ y) i (n ∙ sym (next-in′ t k (block-inside′ l)))
+            one-more (λ j. spelledAt (nameOf t names j) s at ≡ Spelled.Not) from k inv (sym q ∙ y) i (n ∙ sym (next-in′ t k (block-inside′ l)))
 
 pub ruleset block-laws = (needs, block-begins′, block-inside′, block-less′, block-over′, block-found′, block-more′)

@@ -19,10 +19,8 @@ use Rattle.util.specs.Run.{every, standsAt}
 use Rattle.util.proofs.Every.{every-join, every-weaker}
 use Rattle.mnemonic.specs.Mnemonic.{eitherCase, matches}
 use Rattle.mnemonic.proofs.Pairs.{long}
-use Rattle.spoken.specs.Spoken.{spelledAt}
+use Rattle.spoken.specs.{Spoken.spelledAt, declared.Spelled.Spelled}
 use Rattle.spoken.specs.Internal.{goesOnAt, oneAdded, Reached, Counted, Missing}
-use Rattle.spoken.specs.declared.Spelled.{Spelled}
-use Rattle.spoken.specs.declared.Spelled.the-variants as spelled
 use Rattle.spoken.proofs.Bytes.{digit-in}
 use Rattle.spoken.proofs.Matching.{letter-left, same-digits, more-digits, other-digit, one-left, digits-left, one-added, more-added}
 use Rattle.spoken.proofs.Mnemonics.{remainder, goes-in, remainder-none, remainder-some, remainder-after, no-match, over-long, match}
@@ -80,11 +78,11 @@ module _ (x s : List ℕ) (at from i next : ℕ) (k : Counted x s at from i next
       ∙ rw (length-append (r .said ++ r .left) (k .digits ++ drop i x), length-append (r .said) (r .left), length-append (k .digits) (drop i x), long eitherCase (r .said) (r .letters) (r .same))
 
   -- what follows the letters in the name and in the mnemonic settles it
-  by-not : (z w : List ℕ) → k .digits ++ drop i x ≡ z → k .digits ++ remainder s next ≡ w → matches ((r .said ++ r .left) ++ z) (r .letters ++ w) ≡ false → spelled.Not ≡ spelledAt x s at
+  by-not : (z w : List ℕ) → k .digits ++ drop i x ≡ z → k .digits ++ remainder s next ≡ w → matches ((r .said ++ r .left) ++ z) (r .letters ++ w) ≡ false → Spelled.Not ≡ spelledAt x s at
   by-not z w ez ew = no-match s at (r .letters) (k .place) (r .text) (r .letters-open) x ((r .said ++ r .left) ++ z) w (name-is ∙ ap (λ (t : List ℕ). (r .said ++ r .left) ++ t) ez) (left-is ∙ ew)
 
   by-to : (z w : List ℕ) → k .digits ++ drop i x ≡ z → k .digits ++ remainder s next ≡ w → matches ((r .said ++ r .left) ++ z) (r .letters ++ w) ≡ true → length (r .letters) + length w ≤ 12
-      → (e : ℕ) → e ≡ k .place + length w → spelled.To e ≡ spelledAt x s at
+      → (e : ℕ) → e ≡ k .place + length w → Spelled.To e ≡ spelledAt x s at
   by-to z w ez ew h l e q =
       match s at (r .letters) (k .place) (r .text) (r .letters-open) x ((r .said ++ r .left) ++ z) w (name-is ∙ ap (λ (t : List ℕ). (r .said ++ r .left) ++ t) ez) (left-is ∙ ew) h l e
       (omega (arith, q, r .place-is))
@@ -100,7 +98,7 @@ module _ (x s : List ℕ) (at from i next : ℕ) (k : Counted x s at from i next
   place-is h = omega (arith, h, k .index-is, k .next-is)
 
   module _ (h : i < length x) where
-    pub letter-left′ : from ≡ i → (q : Bool) → q ≡ isLetter (getD x i 0) → q ≡ true → spelled.Not ≡ spelledAt x s at
+    pub letter-left′ : from ≡ i → (q : Bool) → q ≡ isLetter (getD x i 0) → q ≡ true → Spelled.Not ≡ spelledAt x s at
     letter-left′ f q eq kq =
         by-not (getD x i 0 ∷ drop (suc i) x) (remainder s (k .place)) (rw (no-digits f, drop-cons x i 0 h)) (sym left-is)
         (letter-left (r .said) (r .left) (r .letters) (r .same) (r .said-opens) (r .letters-open) (drop from x) (r .form) (getD x i 0) (drop (suc i) x)
@@ -111,24 +109,24 @@ module _ (x s : List ℕ) (at from i next : ℕ) (k : Counted x s at from i next
       at-digit = rw (drop-cons x i 0 h)
 
       module _ (n : standsAt (getD x i 0) s next ≡ false) where
-        other : (k .digits ++ remainder s next ≡ [] → ⊥) → spelled.Not ≡ spelledAt x s at
+        other : (k .digits ++ remainder s next ≡ [] → ⊥) → Spelled.Not ≡ spelledAt x s at
         other some = go (k .digits ++ remainder s next) refl some
           where
-            go : (w : List ℕ) → k .digits ++ remainder s next ≡ w → (w ≡ [] → ⊥) → spelled.Not ≡ spelledAt x s at
+            go : (w : List ℕ) → k .digits ++ remainder s next ≡ w → (w ≡ [] → ⊥) → Spelled.Not ≡ spelledAt x s at
             go [] q z = absurd (z refl)
             go (e ∷ b) q z =
                 by-not (k .digits ++ (getD x i 0 ∷ drop (suc i) x)) (k .digits ++ remainder s next) at-digit refl
                 (other-digit (r .said) (r .left) (r .letters) (r .same) (r .said-opens) (r .letters-open) (drop from x) (r .form) (k .digits) (getD x i 0) (drop (suc i) x) (remainder s next) (k .all-digits) d
                 (not-first s next (getD x i 0) d (not-there (getD x i 0) s next d n)) e b q (not-letter e b q))
 
-        pub some-digits′ : from < i → spelled.Not ≡ spelledAt x s at
+        pub some-digits′ : from < i → Spelled.Not ≡ spelledAt x s at
         some-digits′ l = other (λ e. omega (arith, l, k .index-is, ap length e, length-append (k .digits) (remainder s next)))
 
         module _ (l : i ≤ from) (g : Bool) (eg : g ≡ goesOnAt s next) where
           level : from ≡ i
           level = omega (arith, l, k .index-is)
 
-          pub goes-on′ : g ≡ true → spelled.Not ≡ spelledAt x s at
+          pub goes-on′ : g ≡ true → Spelled.Not ≡ spelledAt x s at
           goes-on′ q =
               other (λ e. omega (arith, ap length e, length-append (k .digits) (remainder s next), ap length (remainder-some s next (sym eg ∙ q))))
 
@@ -139,18 +137,18 @@ module _ (x s : List ℕ) (at from i next : ℕ) (k : Counted x s at from i next
             digits : k .digits ++ drop i x ≡ getD x i 0 ∷ drop (suc i) x
             digits = at-digit ∙ rw (no-digits level)
 
-            wrong : (getD x i 0 ∷ drop (suc i) x ≡ 49 ∷ [] → ⊥) → spelled.Not ≡ spelledAt x s at
+            wrong : (getD x i 0 ∷ drop (suc i) x ≡ 49 ∷ [] → ⊥) → Spelled.Not ≡ spelledAt x s at
             wrong w =
                 by-not (getD x i 0 ∷ drop (suc i) x) [] digits none
                 (digits-left (r .said) (r .left) (r .letters) (r .same) (r .said-opens) (r .letters-open) (drop from x) (r .form) (getD x i 0) (drop (suc i) x) d w)
 
-            pub more-left′ : (length x ≡ i + 1 → ⊥) → spelled.Not ≡ spelledAt x s at
+            pub more-left′ : (length x ≡ i + 1 → ⊥) → Spelled.Not ≡ spelledAt x s at
             more-left′ w = wrong (λ e. w (omega (arith, h, ap length e, length-drop (suc i) x)))
 
-            pub other-left′ : (getD x i 0 ≡ 49 → ⊥) → spelled.Not ≡ spelledAt x s at
+            pub other-left′ : (getD x i 0 ≡ 49 → ⊥) → Spelled.Not ≡ spelledAt x s at
             other-left′ w = wrong (λ e. w (ap (λ (t : List ℕ). getD t 0 0) e))
 
-            pub one-left′ : length x ≡ i + 1 → getD x i 0 ≡ 49 → spelled.To next ≡ spelledAt x s at
+            pub one-left′ : length x ≡ i + 1 → getD x i 0 ≡ 49 → Spelled.To next ≡ spelledAt x s at
             one-left′ w o =
                 by-to (49 ∷ []) [] (digits ∙ rw (o, none-long (drop (suc i) x) (omega (arith, w, length-drop (suc i) x)))) none
                 (one-left (r .said) (r .left) (r .letters) (r .same) (r .said-opens) (r .letters-open) (drop from x) (r .form)) (omega (arith, name-long, r .size)) next (omega (arith, place-is level))
@@ -204,7 +202,7 @@ module _ (x s : List ℕ) (at from i next : ℕ) (k : Counted x s at from i next
     all-said : k .digits ++ drop i x ≡ k .digits
     all-said = rw (drop-of-length-le x h) (append-nil (k .digits))
 
-    pub spelled-to′ : not g ≡ true → spelled.To next ≡ spelledAt x s at
+    pub spelled-to′ : not g ≡ true → Spelled.To next ≡ spelledAt x s at
     spelled-to′ kg =
         by-to x s at from i next k (k .digits) (k .digits) all-said (rw (remainder-none s next (sym eg ∙ not-true g kg)) (append-nil (k .digits)))
         (same-digits (r .said) (r .left) (r .letters) (r .same) (r .said-opens) (r .letters-open) (drop from x) (r .form) (k .digits) (k .all-digits))
@@ -225,13 +223,13 @@ module _ (x s : List ℕ) (at from i next : ℕ) (k : Counted x s at from i next
       pub next-after′ : at ≤ next
       next-after′ = omega (arith, k .next-is, k .reached .place-is)
 
-      pub digits-go-on′ : from < length x → spelled.Not ≡ spelledAt x s at
+      pub digits-go-on′ : from < length x → Spelled.Not ≡ spelledAt x s at
       digits-go-on′ l = go (k .digits) refl
         where
           r : Reached x s at from (k .place)
           r = k .reached
 
-          go : (d : List ℕ) → k .digits ≡ d → spelled.Not ≡ spelledAt x s at
+          go : (d : List ℕ) → k .digits ≡ d → Spelled.Not ≡ spelledAt x s at
           go [] e = absurd (omega (arith, l, h, k .index-is, ap length e))
           go (c ∷ d) e =
               by-not x s at from i next k (c ∷ d) ((c ∷ d) ++ (getD s next 0 ∷ remainder s (suc next))) (all-said ∙ e) (rw (e, remainder-some s next on))
@@ -251,13 +249,13 @@ module _ (x s : List ℕ) (at from i next : ℕ) (k : Counted x s at from i next
             r : Reached x s at from (k .place)
             r = k .reached
 
-            wrong : (getD s next 0 ∷ remainder s (suc next) ≡ 49 ∷ [] → ⊥) → spelled.Not ≡ spelledAt x s at
+            wrong : (getD s next 0 ∷ remainder s (suc next) ≡ 49 ∷ [] → ⊥) → Spelled.Not ≡ spelledAt x s at
             wrong w =
                 by-not x s at from i next k [] (getD s next 0 ∷ remainder s (suc next)) (all-said ∙ no-digit) on-left
                 (more-added (r .said) (r .left) (r .letters) (r .same) (r .said-opens) (r .letters-open) (drop from x) (r .form) (getD s next 0) (remainder s (suc next)) (not-letter x s at from i next k (getD s next 0) (remainder s (suc next)) on-left) w)
 
             one : (a : Bool) → eqb (getD s next 0) 49 ≡ a → (b : Bool) → goesOnAt s (next + 1) ≡ b → (c : Bool) → leb (next - at) 11 ≡ c
-                → cond (a && (not b && c)) (spelled.To (next + 1)) spelled.Not ≡ spelledAt x s at
+                → cond (a && (not b && c)) (Spelled.To (next + 1)) Spelled.Not ≡ spelledAt x s at
             one false p b q c t = wrong (λ z. clash (eq-eqb (getD s next 0) 49 (ap (λ (y : List ℕ). getD y 0 0) z)) p)
             one true p true q c t = wrong (λ z. omega (arith, ap length z, ap length (remainder-some s (suc next) (rw add-one at q))))
             one true p false q false t =

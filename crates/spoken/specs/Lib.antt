@@ -1,3 +1,2 @@
 pub mod Spoken
 pub mod Internal
-pub mod Claims

@@ -5,7 +5,6 @@ ghost use Prim.Native.Nat.{_+_, _≤_, _<_};
 ghost use mathlib.Core.Path.{_≡_};
 ghost use mathlib.Core.Bool.{true, false};
 ghost use lib.ListN.{length, getD, drop};
-ghost use Rattle.kind.specs.Class.{isSmall};
 ghost use Rattle.util.specs.Run.{runEnd};
 ghost use Rattle.node.specs.Word.{nameIn};
 ghost use Rattle.spoken.specs.Spoken.{letterAt, spelledAt, Spells};
@@ -112,7 +111,7 @@ fn name_spelled(name: &[u8], s: &[u8], at: usize) -> Spelled
             return matched(name, s, at);
         }
     } else {
-        i = skip_small(name, p);
+        i = util::skip_small(name, p);
     }
     tail(name, s, at, i, place)
 }
@@ -164,20 +163,6 @@ fn departs(name: &[u8], at: usize, b: u8) -> bool
         return true;
     }
     name[at] % 32 != b % 32
-}
-
-// The place after the small letters that begin at a place.
-fn skip_small(s: &[u8], at: usize) -> usize
-    ensures { λ r. ⌜ r ≡ runEnd isSmall (now (s .entry)) at ⌝ }
-{
-    let mut next = at;
-    while next < s.len() {
-        if !kind::is_small(s[next]) {
-            return next;
-        }
-        next += 1;
-    }
-    next
 }
 
 // Whether the mnemonic at `at`, whose letters up to `place` are those of the name up to `from`, spells the name: what is left of the name is at

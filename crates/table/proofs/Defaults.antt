@@ -17,11 +17,8 @@ use Rattle.node.specs.Word.{isBranch}
 use Rattle.node.specs.Tree.{branch, default, first, count}
 use Rattle.branch.specs.Children.{unsaidIn, PicksIn, first-in, none-in}
 use Rattle.branch.specs.Block.{blockOf, childrenOf, nextChild}
-use Rattle.branch.specs.declared.Block.{Block}
-use Rattle.branch.specs.declared.Pick.{Pick}
-use Rattle.branch.specs.declared.Pick.the-variants as pick
-use Rattle.branch.proofs.Blocks.{next-in′}
-use Rattle.branch.proofs.Picks.{covers, not-past}
+use Rattle.branch.specs.{declared.Block.Block, declared.Pick.Pick}
+use Rattle.branch.proofs.{Blocks.next-in′, Picks.covers, Picks.not-past}
 use Rattle.layout.proofs.Blocks.{in-table}
 use Rattle.table.specs.Fault.{TwoDefaults}
 use Rattle.table.specs.Internal.{TwoDefaultsIn, OneDefault, DefaultBranch, inner, no-inner, Blocks}
@@ -35,7 +32,7 @@ record First (t : List ℕ) (from to d : ℕ) : Type 0 where
   pub inside : d < length t
   pub before : (k : ℕ) → from ≤ k → default t k ≡ true → d ≤ k
 
-first-at : {t : List ℕ} {from to d : ℕ} → PicksIn (unsaidIn t) from to (pick.Child d) → First t from to d
+first-at : {t : List ℕ} {from to d : ℕ} → PicksIn (unsaidIn t) from to (Pick.Child d) → First t from to d
 unfolding unsaidIn
 first-at {t} {from} {d = d} (first-in l u e f) = record { low = l; high = u; is = e; inside = go (less-or-not d (length t)); before = λ k h g. back k (less-or-not k d) h g }
   where
@@ -47,28 +44,28 @@ first-at {t} {from} {d = d} (first-in l u e f) = record { low = l; high = u; is 
     back k (inl h) g i = clash i (f k g h)
     back k (inr h) g i = h
 
-none-at : (t : List ℕ) {from to : ℕ} → PicksIn (unsaidIn t) from to pick.None → (k : ℕ) → from ≤ k → k < to → default t k ≡ true → ⊥
+none-at : (t : List ℕ) {from to : ℕ} → PicksIn (unsaidIn t) from to Pick.None → (k : ℕ) → from ≤ k → k < to → default t k ≡ true → ⊥
 unfolding unsaidIn
 none-at t (none-in f) k l u e = clash e (f k l u)
 
 -- two in a block
 
 module _ (t : List ℕ) (from to : ℕ) (p : Pick) (x : PicksIn (unsaidIn t) from to p) where
-  pub two-none′ : p ≡ pick.None → Decides (TwoDefaultsIn t from to) false
+  pub two-none′ : p ≡ Pick.None → Decides (TwoDefaultsIn t from to) false
   two-none′ e = fails (λ z. none-at t (rw e at x) (z .one) (z .low) (omega (arith, z .order, z .high)) (z .default-one))
 
-  module _ (d : ℕ) (e : p ≡ pick.Child d) (i : ℕ) (n : i ≡ nextChild t d) (q : Pick) (y : PicksIn (unsaidIn t) i to q) where
+  module _ (d : ℕ) (e : p ≡ Pick.Child d) (i : ℕ) (n : i ≡ nextChild t d) (q : Pick) (y : PicksIn (unsaidIn t) i to q) where
     one : First t from to d
     one = first-at (rw e at x)
 
     next : i ≡ d + 1
     next = n ∙ sym (next-in′ t d (one .inside))
 
-    pub two-one′ : q ≡ pick.None → Decides (TwoDefaultsIn t from to) false
+    pub two-one′ : q ≡ Pick.None → Decides (TwoDefaultsIn t from to) false
     two-one′ f =
         fails (λ z. none-at t (rw f at y) (z .other) (omega (arith, next, one .before (z .one) (z .low) (z .default-one), z .order)) (z .high) (z .default-other))
 
-    pub two-two′ : (k : ℕ) → q ≡ pick.Child k → Decides (TwoDefaultsIn t from to) true
+    pub two-two′ : (k : ℕ) → q ≡ Pick.Child k → Decides (TwoDefaultsIn t from to) true
     two-two′ k f =
         let other = first-at (rw f at y) in
         holds
@@ -160,16 +157,16 @@ pub ruleset single-laws = (needs, single-begins′, single-end′, two-found′,
 -- the default branch of a block that has one default node at most
 
 module _ (t : List ℕ) (from to : ℕ) (p : Pick) (x : PicksIn (unsaidIn t) from to p) where
-  pub inner-none′ : p ≡ pick.None → DefaultBranch t from to pick.None
+  pub inner-none′ : p ≡ Pick.None → DefaultBranch t from to Pick.None
   inner-none′ e = no-inner (λ k l u b f. none-at t (rw e at x) k l u f)
 
-  module _ (d : ℕ) (e : p ≡ pick.Child d) where
+  module _ (d : ℕ) (e : p ≡ Pick.Child d) where
     pub inner-inside′ : d < length t
     inner-inside′ = first-at (rw e at x) .inside
 
     module _ (g : Bool) (f : g ≡ isBranch (getD t d 0)) where
       -- a default branch would be a second default node
-      pub inner-leaf′ : not g ≡ true → OneDefault t from to → DefaultBranch t from to pick.None
+      pub inner-leaf′ : not g ≡ true → OneDefault t from to → DefaultBranch t from to Pick.None
       inner-leaf′ w ok = no-inner (λ k l u b i. go k (less-or-not d k) u b i (first-at (rw e at x) .before k l i))
         where
           go : (k : ℕ) → (d < k) ⊎ (k ≤ d) → k < to → branch t k ≡ true → default t k ≡ true → d ≤ k → ⊥
@@ -178,7 +175,7 @@ module _ (t : List ℕ) (from to : ℕ) (p : Pick) (x : PicksIn (unsaidIn t) fro
               ok .one (record { one = d; other = k; low = y .low; order = m; high = u; default-one = y .is; default-other = i })
           go k (inr m) u b i h = let z : k ≡ d = omega arith in clash (rw z at b) (sym f ∙ not-true g w)
 
-      pub inner-found′ : not g ≡ false → DefaultBranch t from to (pick.Child d)
+      pub inner-found′ : not g ≡ false → DefaultBranch t from to (Pick.Child d)
       inner-found′ w = let y = first-at (rw e at x) in inner (y .low) (y .high) (sym f ∙ not-false g w) (y .is)
 
 pub ruleset inner-laws = (needs, inner-inside′, inner-none′, inner-leaf′, inner-found′)

@@ -5,4 +5,3 @@ pub mod Shared
 pub mod Theorem
 pub mod Verdicts
 pub mod Told
-pub mod Claims

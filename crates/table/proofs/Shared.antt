@@ -16,13 +16,11 @@ use Rattle.util.specs.Decides.{Decides, holds, fails}
 use Rattle.util.proofs.Decided.{it-holds, it-fails}
 use Rattle.mnemonic.specs.Spelling.{Name}
 use Rattle.name.specs.Share.{shares}
-use Rattle.name.proofs.Heads.{name-filled, initials}
+use Rattle.names.proofs.Heads.{name-filled, initials}
 use Rattle.node.specs.Word.{nameLength, nameStart, nameIn, initialIn}
 use Rattle.node.specs.Tree.{branch, default, first, count, nameOf, Child, Near, child, under}
 use Rattle.branch.specs.Block.{blockOf, childrenOf, nextChild}
-use Rattle.branch.specs.declared.Block.{Block}
-use Rattle.branch.specs.declared.Pick.{Pick}
-use Rattle.branch.specs.declared.Pick.the-variants as pick
+use Rattle.branch.specs.{declared.Block.Block, declared.Pick.Pick}
 use Rattle.branch.proofs.Blocks.{next-in′}
 use Rattle.layout.specs.Layout.{BadName, outside, no-byte}
 use Rattle.table.specs.Internal.{NamedBlock, OneDefault, DefaultBranch, inner, no-inner, DefaultShares, SharesIn, ChildrenShare, BlocksShare, NearShares, SharesAt, children, below, Ready}
@@ -219,31 +217,31 @@ module _ (t names : List ℕ) (ok : Ready t names) (b : ℕ) (m : branch t b ≡
   -- what lies below the default branch
 
   module _ (v : Pick) (y : DefaultBranch t (x .from) (x .to) v) where
-    module _ (d : ℕ) (e : v ≡ pick.Child d) where
+    module _ (d : ℕ) (e : v ≡ Pick.Child d) where
       pub goes-down′ : branch t d ≡ true
       goes-down′ = go (rw e at y)
         where
-          go : DefaultBranch t (x .from) (x .to) (pick.Child d) → branch t d ≡ true
+          go : DefaultBranch t (x .from) (x .to) (Pick.Child d) → branch t d ≡ true
           go (inner l u h i) = h
 
       pub deeper′ : (μ : ℕ) → length t - b ≡ μ → length t - d < μ
       deeper′ μ n = go (rw e at y)
         where
-          go : DefaultBranch t (x .from) (x .to) (pick.Child d) → length t - d < μ
+          go : DefaultBranch t (x .from) (x .to) (Pick.Child d) → length t - d < μ
           go (inner l u h i) = omega (arith, n, after t (ok .blocks .no-child-blocks) b m, starts-at, l, u, its-block′ .within)
 
     module _ (first′ end : ℕ) where
-      no-below : v ≡ pick.None → Decides (DefaultShares t names first′ end b) false
+      no-below : v ≡ Pick.None → Decides (DefaultShares t names first′ end b) false
       no-below e = go (rw e at y)
         where
-          go : DefaultBranch t (x .from) (x .to) pick.None → Decides (DefaultShares t names first′ end b) false
+          go : DefaultBranch t (x .from) (x .to) Pick.None → Decides (DefaultShares t names first′ end b) false
           go (no-inner f) =
               fails (λ z. f (z .inner) (rw starts-at (z .inner-child .from)) (rw ends-at (z .inner-child .below)) (near-branch (z .shares .near)) (z .inner-default))
 
-      by-inner : (d : ℕ) → v ≡ pick.Child d → (u : Bool) → Decides (NearShares t names first′ end d) u → Decides (DefaultShares t names first′ end b) u
+      by-inner : (d : ℕ) → v ≡ Pick.Child d → (u : Bool) → Decides (NearShares t names first′ end d) u → Decides (DefaultShares t names first′ end b) u
       by-inner d e = go (rw e at y)
         where
-          go : DefaultBranch t (x .from) (x .to) (pick.Child d) → (u : Bool) → Decides (NearShares t names first′ end d) u → Decides (DefaultShares t names first′ end b) u
+          go : DefaultBranch t (x .from) (x .to) (Pick.Child d) → (u : Bool) → Decides (NearShares t names first′ end d) u → Decides (DefaultShares t names first′ end b) u
           go (inner l h i j) u (holds z) = holds (record { inner = d; inner-child = child-of l h; inner-default = j; shares = z })
           go (inner l h i j) u (fails z) =
               fails (λ w. z (rw (one-default t names ok (child-of l h) (w .inner-child) j (w .inner-default)) (w .shares)))
@@ -265,10 +263,10 @@ module _ (t names : List ℕ) (ok : Ready t names) (b : ℕ) (m : branch t b ≡
         go {k} (under {d = j} z e a) w = y (record { inner = j; inner-child = z; inner-default = e; shares = record { one = k; near = a; rest = w } })
 
     module _ (q : r ≡ false) (v : Pick) (y : DefaultBranch t (x .from) (x .to) v) where
-      pub near-none′ : v ≡ pick.None → Decides (NearShares t names first′ end b) false
+      pub near-none′ : v ≡ Pick.None → Decides (NearShares t names first′ end b) false
       near-none′ e = near-else q (no-below v y first′ end e)
 
-      pub near-down′ : (d : ℕ) → v ≡ pick.Child d → (u : Bool) → Decides (NearShares t names first′ end d) u → Decides (NearShares t names first′ end b) u
+      pub near-down′ : (d : ℕ) → v ≡ Pick.Child d → (u : Bool) → Decides (NearShares t names first′ end d) u → Decides (NearShares t names first′ end b) u
       near-down′ d e u z = near-else q (by-inner v y first′ end d e u z)
 
   -- a branch itself
@@ -286,10 +284,10 @@ module _ (t names : List ℕ) (ok : Ready t names) (b : ℕ) (m : branch t b ≡
         go (below z) = y (rw (ends-at, starts-at) z)
 
     module _ (q : r ≡ false) (v : Pick) (y : DefaultBranch t (x .from) (x .to) v) where
-      pub at-none′ : v ≡ pick.None → Decides (SharesAt t names b) false
+      pub at-none′ : v ≡ Pick.None → Decides (SharesAt t names b) false
       at-none′ e = at-else q (no-below v y (x .from) (x .to) e)
 
-      pub at-below′ : (d : ℕ) → v ≡ pick.Child d → (u : Bool) → Decides (NearShares t names (x .from) (x .to) d) u → Decides (SharesAt t names b) u
+      pub at-below′ : (d : ℕ) → v ≡ Pick.Child d → (u : Bool) → Decides (NearShares t names (x .from) (x .to) d) u → Decides (SharesAt t names b) u
       at-below′ d e u z = at-else q (by-inner v y (x .from) (x .to) d e u z)
 
 pub ruleset down-laws = (needs, goes-down′, deeper′)

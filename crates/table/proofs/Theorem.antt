@@ -12,15 +12,14 @@ use Rattle.kind.proofs.Tests.{clash, less-or-not}
 use Rattle.util.specs.Decides.{Decides, holds, fails}
 use Rattle.util.proofs.Decided.{it-holds, it-fails}
 use Rattle.name.specs.Share.{shares, Share}
-use Rattle.name.proofs.Shares.{sharing}
+use Rattle.names.proofs.Shares.{sharing}
 use Rattle.node.specs.Word.{isBranch}
 use Rattle.node.specs.Tree.{branch, default, nameOf, Child, Near, child, under}
 use Rattle.layout.specs.Layout.{ChildBlocks}
 use Rattle.table.specs.Fault.{SharedSpelling}
 use Rattle.table.specs.Internal.{SharesAt, children, below, Ready}
 use Rattle.util.proofs.Before.{Before, none-yet, one-more}
-use Rattle.layout.proofs.Blocks.{in-table}
-use Rattle.layout.proofs.NodeNames.{name-of}
+use Rattle.layout.proofs.{Blocks.in-table, NodeNames.name-of}
 use Rattle.table.proofs.Shape.{child-in, elsewhere, near-in}
 use Rattle.table.proofs.Shared.{one-default}
 

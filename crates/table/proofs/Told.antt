@@ -6,15 +6,14 @@ use mathlib.Core.Bool.{Bool, true, false, false≢true}
 use Rattle.error.specs.declared.ErrorCode.{ErrorCode}
 use Rattle.table.specs.Fault.{Accepted, Verdict, accepts, refuses}
 use Rattle.table.specs.declared.Checked.{Checked}
-use Rattle.table.specs.declared.Checked.the-variants as checked
 
 abbrev isAccepted : Checked → Bool
-isAccepted checked.Accepted = true
-isAccepted (checked.Fault e) = false
+isAccepted Checked.Accepted = true
+isAccepted (Checked.Fault e) = false
 
-pub no-fault : {A : Type 0} {e : ErrorCode} → checked.Fault e ≡ checked.Accepted → A
+pub no-fault : {A : Type 0} {e : ErrorCode} → Checked.Fault e ≡ Checked.Accepted → A
 no-fault q = absurd (false≢true (ap isAccepted q))
 
-pub faultless : {t names : List ℕ} {x : Checked} → Verdict t names x → x ≡ checked.Accepted → Accepted t names
+pub faultless : {t names : List ℕ} {x : Checked} → Verdict t names x → x ≡ Checked.Accepted → Accepted t names
 faultless (accepts a) q = a
 faultless (refuses f g) q = no-fault q

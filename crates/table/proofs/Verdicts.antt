@@ -6,7 +6,6 @@ use mathlib.Core.Bool.{Bool, true, false}
 use native.Mathlib.Omega.{arith}
 use borrow.Author.Needs.{needs}
 use Rattle.error.specs.declared.ErrorCode.{ErrorCode}
-use Rattle.error.specs.declared.ErrorCode.the-variants as code
 use Rattle.util.specs.Decides.{Decides}
 use Rattle.util.proofs.Decided.{it-holds, it-fails}
 use Rattle.layout.specs.Layout.{NodeCount, NodeFields, ChildBlocks, NodeName}
@@ -41,37 +40,37 @@ module _ (t names : List ℕ) where
   below n f1 f2 f3 f4 f5 f6 e m l (shared-spelling x) = f6 l x
 
   module _ (r-one : Bool) (one : Decides (NodeCount t) r-one) where
-    pub node-count′ : r-one ≡ true → Verdict t names (checked.Fault code.NodeCount)
+    pub node-count′ : r-one ≡ true → Verdict t names (checked.Fault ErrorCode.NodeCount)
     node-count′ q =
         refuses (node-count (it-holds one q))
         (below 1 (λ l. absurd (omega arith)) (λ l. absurd (omega arith)) (λ l. absurd (omega arith)) (λ l. absurd (omega arith)) (λ l. absurd (omega arith)) (λ l. absurd (omega arith)))
 
     module _ (no-one : r-one ≡ false) (r-two : Bool) (two : Decides (NodeFields t) r-two) where
-      pub node-fields′ : r-two ≡ true → Verdict t names (checked.Fault code.NodeFields)
+      pub node-fields′ : r-two ≡ true → Verdict t names (checked.Fault ErrorCode.NodeFields)
       node-fields′ q =
           refuses (node-fields (it-holds two q))
           (below 2 (λ l. it-fails one no-one) (λ l. absurd (omega arith)) (λ l. absurd (omega arith)) (λ l. absurd (omega arith)) (λ l. absurd (omega arith)) (λ l. absurd (omega arith)))
 
       module _ (no-two : r-two ≡ false) (r-three : Bool) (three : Decides (ChildBlocks t) r-three) where
-        pub child-blocks′ : r-three ≡ true → Verdict t names (checked.Fault code.ChildBlocks)
+        pub child-blocks′ : r-three ≡ true → Verdict t names (checked.Fault ErrorCode.ChildBlocks)
         child-blocks′ q =
             refuses (child-blocks (it-holds three q))
             (below 3 (λ l. it-fails one no-one) (λ l. it-fails two no-two) (λ l. absurd (omega arith)) (λ l. absurd (omega arith)) (λ l. absurd (omega arith)) (λ l. absurd (omega arith)))
 
         module _ (no-three : r-three ≡ false) (r-four : Bool) (four : Decides (NodeName t names) r-four) where
-          pub node-name′ : r-four ≡ true → Verdict t names (checked.Fault code.NodeName)
+          pub node-name′ : r-four ≡ true → Verdict t names (checked.Fault ErrorCode.NodeName)
           node-name′ q =
               refuses (node-name (it-holds four q))
               (below 4 (λ l. it-fails one no-one) (λ l. it-fails two no-two) (λ l. it-fails three no-three) (λ l. absurd (omega arith)) (λ l. absurd (omega arith)) (λ l. absurd (omega arith)))
 
           module _ (no-four : r-four ≡ false) (r-five : Bool) (five : Decides (TwoDefaults t) r-five) where
-            pub two-defaults′ : r-five ≡ true → Verdict t names (checked.Fault code.TwoDefaults)
+            pub two-defaults′ : r-five ≡ true → Verdict t names (checked.Fault ErrorCode.TwoDefaults)
             two-defaults′ q =
                 refuses (two-defaults (it-holds five q))
                 (below 5 (λ l. it-fails one no-one) (λ l. it-fails two no-two) (λ l. it-fails three no-three) (λ l. it-fails four no-four) (λ l. absurd (omega arith)) (λ l. absurd (omega arith)))
 
             module _ (no-five : r-five ≡ false) (r-six : Bool) (six : Decides (SharedSpelling t names) r-six) where
-              pub shared-spelling′ : r-six ≡ true → Verdict t names (checked.Fault code.SharedSpelling)
+              pub shared-spelling′ : r-six ≡ true → Verdict t names (checked.Fault ErrorCode.SharedSpelling)
               shared-spelling′ q =
                   refuses (shared-spelling (it-holds six q))
                   (below 6 (λ l. it-fails one no-one) (λ l. it-fails two no-two) (λ l. it-fails three no-three) (λ l. it-fails four no-four) (λ l. it-fails five no-five) (λ l. absurd (omega arith)))

@@ -1,3 +1,2 @@
 pub mod Fault
 pub mod Internal
-pub mod Claims

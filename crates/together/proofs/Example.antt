@@ -4,32 +4,24 @@ use mathlib.Core.Path.{_≡_, refl, ap, subst, _∙_}
 use mathlib.Core.List.{List, [], _∷_}
 use mathlib.Core.Bool.{Bool, true, false, cond}
 use borrow.Author.Tests.{leb-true}
-use Rattle.kind.specs.Text.{ascii}
+use Rattle.kind.specs.{Text.ascii, Kind.kindOf}
 use Rattle.kind.specs.Class.{isAscii, isCapital, isSmall, isDigit, isLetter, inMnemonic, isWhiteSpace, isSign, isQuote}
-use Rattle.kind.specs.Kind.{kindOf}
 use Rattle.util.specs.Run.{run, runEnd, standsAt, every}
-use Rattle.node.specs.Word.{isBranch}
-use Rattle.node.specs.Tree.{branch}
+use Rattle.node.specs.{Word.isBranch, Tree.branch}
 use Rattle.token.specs.View.{viewOf, partOf}
-use Rattle.item.specs.Word.{starEnd, mnemonic}
-use Rattle.item.specs.Follow.{endsData, followed}
+use Rattle.item.specs.{Word.starEnd, Word.mnemonic, Follow.endsData, Follow.followed}
 use Rattle.enclosed.specs.Expression.{inExpression, bracketed, expressionData}
 use Rattle.separator.specs.Separator.{colonTo, followsColon, questionTo, followsQuery}
 use Rattle.tokenizer.specs.Step.{stateOf, taken, refusal, ended, readAs, passed, colonBefore, questionBefore, wordAt, byKind, step, ofMessage}
 use Rattle.tokenizer.specs.declared.State.{State}
-use Rattle.ahead.specs.Seen.{seenAt}
+use Rattle.ahead.specs.{Seen.seenAt, declared.Stop.Stop}
 use Rattle.header.specs.Header.{turnOf, behindColon, keeping, Begins}
-use Rattle.ahead.specs.declared.Stop.{Stop}
-use Rattle.ahead.specs.declared.Stop.the-variants as stop
 use Rattle.header.specs.declared.Header.{Header}
-use Rattle.header.specs.declared.Header.the-variants as header
-use Rattle.header.proofs.Claims as headers
-use Rattle.tree.specs.Route.{Leads}
-use Rattle.tree.specs.Heard.{Spoken}
-use Rattle.tree.specs.Heard as heard
-use Rattle.tree.specs.Worked.{nodes, names}
-use Rattle.tree.proofs.Claims as trees
-use Rattle.tree.proofs.Worked.{worked}
+use Rattle.units.proofs.HeaderClaims as headers
+use Rattle.routes.specs.{Route.Leads, Heard.Spoken, Worked.nodes, Worked.names}
+use Rattle.routes.specs.Heard as heard
+use Rattle.routes.proofs.RouteClaims as trees
+use Rattle.routes.proofs.Worked.{worked}
 use Rattle.items.specs.Entry.{metAt}
 use Rattle.items.specs.Items as items
 use Rattle.items.specs.declared.Data.the-variants as found
@@ -40,7 +32,7 @@ use Rattle.together.specs.Example.{example, Worked}
 -- what the routes say of a header is what it is answered
 begins-by : (at : State) (rooted : Bool) (words : List (List ℕ)) (query : Bool) (end : Stop) (behind b c kept : ℕ) → branch nodes b ≡ true
     → Spoken example end behind words query at rooted → Leads nodes names (cond rooted 0 b) words c kept
-    → Begins nodes names example b (seenAt example at) (header.Found c query kept end behind)
+    → Begins nodes names example b (seenAt example at) (Header.Found c query kept end behind)
 begins-by at rooted words query end behind b c kept m x l =
     let z = headers.claims .some-answer nodes names example b (seenAt example at) in
     let e = trees.claims .anywhere nodes names b example at rooted words query end behind (z .0) (worked .accepted) m x (z .1) .command c kept .1 l in
@@ -48,24 +40,24 @@ begins-by at rooted words query end behind b c kept m x l =
 
 -- the headers as they are heard
 
-closes : Spoken example stop.Separator 10 (ascii "ROUT" ∷ ascii "CLOS" ∷ []) false ofMessage false
+closes : Spoken example Stop.Separator 10 (ascii "ROUT" ∷ ascii "CLOS" ∷ []) false ofMessage false
 unfolding seenAt turnOf behindColon step byKind readAs passed colonBefore questionBefore wordAt taken refusal ended kindOf mnemonic starEnd colonTo followsColon questionTo followsQuery partOf run runEnd standsAt every isWhiteSpace isCapital isSmall isDigit isLetter inMnemonic isSign isQuote
 closes = heard.from-branch refl refl (heard.word refl refl (heard.word refl refl (heard.stop refl refl)))
 
-opens : Spoken example stop.Separator 26 (ascii "OPEN" ∷ []) false (stateOf 21 true false) false
+opens : Spoken example Stop.Separator 26 (ascii "OPEN" ∷ []) false (stateOf 21 true false) false
 unfolding seenAt turnOf behindColon step byKind readAs passed colonBefore questionBefore wordAt taken refusal ended kindOf mnemonic starEnd colonTo followsColon questionTo followsQuery partOf run runEnd standsAt every isWhiteSpace isCapital isSmall isDigit isLetter inMnemonic isSign isQuote
 opens = heard.from-branch refl refl (heard.word refl refl (heard.stop refl refl))
 
-identifies : Begins nodes names example 2 (seenAt example (stateOf 31 true false)) (header.Found 1 true 2 stop.Unit 37)
+identifies : Begins nodes names example 2 (seenAt example (stateOf 31 true false)) (Header.Found 1 true 2 Stop.Unit 37)
 unfolding seenAt turnOf behindColon step byKind readAs passed colonBefore questionBefore wordAt taken refusal ended kindOf mnemonic starEnd colonTo followsColon questionTo followsQuery partOf run runEnd standsAt every isWhiteSpace isCapital isSmall isDigit isLetter inMnemonic isSign isQuote isBranch
 identifies =
     let z = headers.claims .some-answer nodes names example 2 (seenAt example (stateOf 31 true false)) in
     let y =
-    trees.claims .common-anywhere nodes names 2 example (stateOf 31 true false) (viewOf 31 35) (ascii "*IDN" ∷ []) true stop.Unit 37 (z .0) (worked .accepted) refl refl refl
+    trees.claims .common-anywhere nodes names 2 example (stateOf 31 true false) (viewOf 31 35) (ascii "*IDN" ∷ []) true Stop.Unit 37 (z .0) (worked .accepted) refl refl refl
     (heard.word refl refl (heard.asked refl refl refl)) (z .1) in
     subst (λ (r : Header). Begins nodes names example 2 (seenAt example (stateOf 31 true false)) r) (y .2 ∙ ap (keeping 2) (y .1 .command 1 0 .1 (worked .identify))) (z .1)
 
-asks : Spoken example stop.Text 43 (ascii "VOLT" ∷ []) true (stateOf 37 true false) true
+asks : Spoken example Stop.Text 43 (ascii "VOLT" ∷ []) true (stateOf 37 true false) true
 unfolding seenAt turnOf behindColon step byKind readAs passed colonBefore questionBefore wordAt taken refusal ended kindOf mnemonic starEnd colonTo followsColon questionTo followsQuery partOf run runEnd standsAt every isWhiteSpace isCapital isSmall isDigit isLetter inMnemonic isSign isQuote
 asks = heard.from-root refl (heard.word refl refl (heard.asked refl refl refl))
 

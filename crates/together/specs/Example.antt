@@ -4,7 +4,7 @@ use mathlib.Core.Bool.{true, false}
 use Prim.Native.Nat.{ℕ}
 use Rattle.kind.specs.Text.{ascii}
 use Rattle.record.specs.declared.Record.{Record}
-use Rattle.tree.specs.Worked.{nodes, names}
+use Rattle.routes.specs.Worked.{nodes, names}
 use Rattle.unit.specs.Unit.{recordOf}
 use Rattle.message.specs.Message.{complete, Message}
 

@@ -8,7 +8,7 @@ use Rattle.mnemonic.specs.Mnemonic.{matches}
 use Rattle.token.specs.View.{viewOf, partOf}
 use Rattle.token.specs.declared.Token.the-variants.{ProgramMessageUnitSeparator, ProgramMnemonic, DecimalNumericProgramData, DecimalNumericSuffixProgramData, NonDecimalNumericProgramData, ArbitraryBlockData}
 use Rattle.tokenizer.specs.Step.{stateOf, ofMessage, ofData}
-use Rattle.tokenizer.specs.Claims.{answerOf, stateBehind}
+use Rattle.tokens.specs.StepClaims.{answerOf, stateBehind}
 use Rattle.tokenizer.specs.declared.Answer.the-variants.{Token, Refused}
 use Rattle.coordinate.specs.Coordinate.{written, pairOf}
 use Rattle.coordinate.specs.declared.Pair.the-variants as pair

@@ -7,10 +7,7 @@ use lib.ListN.{length, take, drop}
 use borrow.Author.Needs.{needs}
 use borrow.Author.Tests.{le-leb, lt-leb}
 use Rattle.mnemonic.specs.Mnemonic.{matches}
-use Rattle.token.specs.View.{partOf}
-use Rattle.token.specs.Token.{viewIn, matchesHeader}
-use Rattle.token.specs.declared.View.{View}
-use Rattle.token.specs.declared.Token.{Token}
+use Rattle.token.specs.{View.partOf, Token.viewIn, Token.matchesHeader, declared.View.View, declared.Token.Token}
 
 module _ (s : List ℕ) (v : View) where
   pub beyond′ : length s < v .end → take 0 s ≡ partOf s v

@@ -8,8 +8,7 @@ use lib.Dec.{eqb, leb}
 use borrow.Author.Tests.{eqb-true, leb-true}
 use Rattle.kind.specs.Class.{isWhiteSpace, isCapital, isSmall, isDigit, isLetter, isSign, isQuote, isAscii}
 use Rattle.kind.specs.Kind.{kindOf}
-use Rattle.kind.proofs.Bytes.{agrees}
-use Rattle.kind.proofs.Tests.{either, and-right}
+use Rattle.kind.proofs.{Bytes.agrees, Tests.either, Tests.and-right}
 
 -- letters have one of two kinds
 lettersOf : ℕ → Bool

@@ -9,26 +9,20 @@ use borrow.Author.Needs.{needs}
 use borrow.Author.Tests.{le-leb, lt-leb, ne-eqb}
 use Rattle.error.specs.declared.ErrorCode.{ErrorCode}
 use Rattle.error.specs.declared.ErrorCode.the-variants.{InvalidCharacter, SyntaxError, CommandHeaderError}
-use Rattle.kind.specs.Class.{isWhiteSpace, isLetter}
-use Rattle.kind.specs.Kind.{kindOf}
+use Rattle.kind.specs.{Class.isWhiteSpace, Class.isLetter, Kind.kindOf}
 use Rattle.util.specs.Run.{runEnd}
 use Rattle.token.specs.declared.Token.{Token}
 use Rattle.token.specs.declared.Token.the-variants.{HeaderMnemonicSeparator, HeaderQuerySuffix, ProgramMessageUnitSeparator, ProgramHeaderSeparator, ProgramDataSeparator}
-use Rattle.item.specs.Word.{mnemonic, characterData}
+use Rattle.item.specs.{Word.mnemonic, Word.characterData, declared.Read.Read}
 use Rattle.decimal.specs.Decimal.{numericData}
-use Rattle.enclosed.specs.String.{stringData}
-use Rattle.enclosed.specs.Expression.{expressionData}
+use Rattle.enclosed.specs.{String.stringData, Expression.expressionData}
 use Rattle.hash.specs.Block.{hashData}
 use Rattle.tokenizer.specs.Step.{stateOf, inHeader, inCommon, ofMessage, ofData, taken, refusal, ended, readAs, passed, endedBy, newlineBefore, colonBefore, questionBefore, commaBefore, wordAt, outside, byKind, step}
-use Rattle.item.specs.declared.Read.{Read}
-use Rattle.item.specs.declared.Read.the-variants as read
 use Rattle.separator.specs.Separator.{newlineTo, colonTo, questionTo, commaTo}
 use Rattle.separator.specs.declared.Pass.{Pass}
-use Rattle.separator.specs.declared.Pass.the-variants as pass
 use Rattle.tokenizer.proofs.Starts.{letter-kind}
-use Rattle.tokenizer.specs.declared.State.{State}
+use Rattle.tokenizer.specs.{declared.State.State, declared.Step.Step}
 use Rattle.tokenizer.specs.declared.Answer.the-variants as answer
-use Rattle.tokenizer.specs.declared.Step.{Step}
 
 pub taken-is′ : (t : Token) (next : ℕ) (header common : Bool) → record { answer = answer.Token t; state = stateOf next header common } ≡ taken t next header common
 unfolding taken
@@ -40,20 +34,20 @@ module _ (s : List ℕ) (st : State) where
   refusal-is′ e = refl
 
   module _ (r : Read) where
-    pub form-token′ : (t : Token) (next : ℕ) → r ≡ read.Token t next → (header common : Bool) → header ≡ inHeader st → (x : Step) → x ≡ taken t next header common → x ≡ readAs s st common r
+    pub form-token′ : (t : Token) (next : ℕ) → r ≡ Read.Token t next → (header common : Bool) → header ≡ inHeader st → (x : Step) → x ≡ taken t next header common → x ≡ readAs s st common r
     unfolding readAs
     form-token′ t next e header common eh x ex = ex ∙ rw (e, eh)
 
-    pub form-refused′ : (common : Bool) (e : ErrorCode) → r ≡ read.Refused e → (x : Step) → x ≡ refusal s st e → x ≡ readAs s st common r
+    pub form-refused′ : (common : Bool) (e : ErrorCode) → r ≡ Read.Refused e → (x : Step) → x ≡ refusal s st e → x ≡ readAs s st common r
     unfolding readAs
     form-refused′ common e q x ex = ex ∙ rw q
 
   module _ (p : Pass) (t : Token) (header : Bool) (x : Step) where
-    pub pass-to′ : (next : ℕ) → p ≡ pass.To next → x ≡ taken t next header (inCommon st) → x ≡ passed s st t header p
+    pub pass-to′ : (next : ℕ) → p ≡ Pass.To next → x ≡ taken t next header (inCommon st) → x ≡ passed s st t header p
     unfolding passed
     pass-to′ next e ex = ex ∙ rw e
 
-    pub pass-refused′ : (e : ErrorCode) → p ≡ pass.Refused e → x ≡ refusal s st e → x ≡ passed s st t header p
+    pub pass-refused′ : (e : ErrorCode) → p ≡ Pass.Refused e → x ≡ refusal s st e → x ≡ passed s st t header p
     unfolding passed
     pass-refused′ e q ex = ex ∙ rw q
 
@@ -66,11 +60,11 @@ pub ruleset parts = (needs, taken-is′, refusal-is′, form-token′, form-refu
 -- A separator, by what `separator` says of it.
 module _ (s : List ℕ) (st : State) (next : ℕ) (p : Pass) (x : Step) where
   module _ (ep : p ≡ newlineTo s next) where
-    pub newline-to′ : (to : ℕ) → p ≡ pass.To to → x ≡ ended (stateOf to (inHeader st) (inCommon st)) to → x ≡ newlineBefore s st next
+    pub newline-to′ : (to : ℕ) → p ≡ Pass.To to → x ≡ ended (stateOf to (inHeader st) (inCommon st)) to → x ≡ newlineBefore s st next
     unfolding newlineBefore endedBy ended
     newline-to′ to e ex = ex ∙ rw (← ep, e)
 
-    pub newline-refused′ : (e : ErrorCode) → p ≡ pass.Refused e → x ≡ refusal s st e → x ≡ newlineBefore s st next
+    pub newline-refused′ : (e : ErrorCode) → p ≡ Pass.Refused e → x ≡ refusal s st e → x ≡ newlineBefore s st next
     unfolding newlineBefore endedBy
     newline-refused′ e q ex = ex ∙ rw (← ep, q)
 

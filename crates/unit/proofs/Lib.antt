@@ -1,3 +1,1 @@
 pub mod Units
-pub mod Answers
-pub mod Claims

@@ -7,14 +7,10 @@ use native.Mathlib.Omega.{arith}
 use lib.IntN.{ℤ, pos}
 use lib.ListN.{length, set}
 use borrow.Author.Needs.{needs}
-use Rattle.error.specs.Code.{codeOf}
-use Rattle.error.specs.declared.ErrorCode.{ErrorCode}
-use Rattle.error.specs.declared.ErrorCode.the-variants.{NoSlotLeft}
+use Rattle.error.specs.{Code.codeOf, declared.ErrorCode.ErrorCode, declared.ErrorCode.the-variants.NoSlotLeft}
 use Rattle.table.specs.declared.Checked.{Checked}
 use Rattle.tree.specs.declared.Resolved.{Resolved}
-use Rattle.tree.specs.declared.Resolved.the-variants as resolved
 use Rattle.message.specs.declared.Walked.{Walked}
-use Rattle.message.specs.declared.Walked.the-variants as walked
 use Rattle.words.specs.Outcome.{Outcome}
 use Rattle.unit_words.specs.Answers.{checkedCode, headerWord, resolvedIn, walkedIn}
 
@@ -28,23 +24,23 @@ pub ruleset check-laws = (needs, told′)
 -- headers
 
 no-slot : (slots : List ℕ) (c : ℕ) (query : Bool) (kept : ℕ) → length slots ≡ 0
-    → record { code = codeOf NoSlotLeft; words = slots } ≡ resolvedIn slots (resolved.Command c query kept)
+    → record { code = codeOf NoSlotLeft; words = slots } ≡ resolvedIn slots (Resolved.Command c query kept)
 unfolding resolvedIn
 no-slot [] c query kept h = refl
 no-slot (y ∷ slots) c query kept h = absurd (omega (arith, h))
 
 first-slot : (slots : List ℕ) (c : ℕ) (query : Bool) (kept : ℕ) → (length slots ≡ 0 → ⊥)
-    → record { code = pos 0; words = set slots 0 (headerWord c query kept) } ≡ resolvedIn slots (resolved.Command c query kept)
+    → record { code = pos 0; words = set slots 0 (headerWord c query kept) } ≡ resolvedIn slots (Resolved.Command c query kept)
 unfolding resolvedIn
 first-slot [] c query kept h = absurd (h refl)
 first-slot (y ∷ slots) c query kept h = refl
 
 module _ (slots : List ℕ) (x : Resolved) where
-  pub refused′ : (e : ErrorCode) → x ≡ resolved.Refused e → (n : ℤ) → n ≡ codeOf e → record { code = n; words = slots } ≡ resolvedIn slots x
+  pub refused′ : (e : ErrorCode) → x ≡ Resolved.Refused e → (n : ℤ) → n ≡ codeOf e → record { code = n; words = slots } ≡ resolvedIn slots x
   unfolding resolvedIn
   refused′ e q n en = rw (q, en)
 
-  module _ (c : ℕ) (query : Bool) (kept : ℕ) (q : x ≡ resolved.Command c query kept) where
+  module _ (c : ℕ) (query : Bool) (kept : ℕ) (q : x ≡ Resolved.Command c query kept) where
     pub no-slot′ : length slots ≡ 0 → (n : ℤ) → n ≡ codeOf NoSlotLeft → record { code = n; words = slots } ≡ resolvedIn slots x
     no-slot′ h n en = rw (q, en) (no-slot slots c query kept h)
 
@@ -60,12 +56,12 @@ unfolding walkedIn
 no-word [] x h = refl
 no-word (y ∷ units) x h = absurd (omega (arith, h))
 
-counted : (units : List ℕ) (n : ℕ) → (length units ≡ 0 → ⊥) → record { code = pos 0; words = set units 0 n } ≡ walkedIn units (walked.Units n)
+counted : (units : List ℕ) (n : ℕ) → (length units ≡ 0 → ⊥) → record { code = pos 0; words = set units 0 n } ≡ walkedIn units (Walked.Units n)
 unfolding walkedIn
 counted [] n h = absurd (h refl)
 counted (y ∷ units) n h = refl
 
-stopped : (units : List ℕ) (n : ℕ) (e : ErrorCode) → (length units ≡ 0 → ⊥) → record { code = codeOf e; words = set units 0 n } ≡ walkedIn units (walked.Refused n e)
+stopped : (units : List ℕ) (n : ℕ) (e : ErrorCode) → (length units ≡ 0 → ⊥) → record { code = codeOf e; words = set units 0 n } ≡ walkedIn units (Walked.Refused n e)
 unfolding walkedIn
 stopped [] n e h = absurd (h refl)
 stopped (y ∷ units) n e h = refl
@@ -75,10 +71,10 @@ module _ (units : List ℕ) (x : Walked) where
   no-word′ h n en = rw en (no-word units x h)
 
   module _ (h : length units ≡ 0 → ⊥) (n : ℕ) where
-    pub counted′ : x ≡ walked.Units n → record { code = pos 0; words = set units 0 n } ≡ walkedIn units x
+    pub counted′ : x ≡ Walked.Units n → record { code = pos 0; words = set units 0 n } ≡ walkedIn units x
     counted′ q = rw q (counted units n h)
 
-    pub stopped′ : (e : ErrorCode) → x ≡ walked.Refused n e → (k : ℤ) → k ≡ codeOf e → record { code = k; words = set units 0 n } ≡ walkedIn units x
+    pub stopped′ : (e : ErrorCode) → x ≡ Walked.Refused n e → (k : ℤ) → k ≡ codeOf e → record { code = k; words = set units 0 n } ≡ walkedIn units x
     stopped′ e q k ek = rw (q, ek) (stopped units n e h)
 
 pub ruleset message-laws = (needs, no-word′, counted′, stopped′)

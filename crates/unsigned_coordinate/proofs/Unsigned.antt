@@ -11,21 +11,11 @@ use borrow.Author.Tests.{le-ltb}
 use mir.Syntax.{w64}
 use mir.Val.{Fits, SFits, toZ, ofZ}
 use mir.ValLaws.{toZ-ofZ}
-use Rattle.error.specs.declared.ErrorCode.{ErrorCode}
-use Rattle.error.specs.declared.ErrorCode.the-variants.{IllegalParameterValue}
+use Rattle.error.specs.{declared.ErrorCode.ErrorCode, declared.ErrorCode.the-variants.IllegalParameterValue}
 use Rattle.unsigned_coordinate.specs.Unsigned.{isNegative, unsignedOf, unsignedPairOf, unsignedTripleOf}
-use Rattle.coordinate.specs.declared.Coordinate.{Coordinate}
-use Rattle.coordinate.specs.declared.Coordinate.the-variants as coordinate
-use Rattle.coordinate.specs.declared.Pair.{Pair}
-use Rattle.coordinate.specs.declared.Pair.the-variants as pair
-use Rattle.coordinate.specs.declared.Triple.{Triple}
-use Rattle.coordinate.specs.declared.Triple.the-variants as triple
-use Rattle.unsigned_coordinate.specs.declared.UnsignedCoordinate.{UnsignedCoordinate}
-use Rattle.unsigned_coordinate.specs.declared.UnsignedCoordinate.the-variants as unsigned-coordinate
-use Rattle.unsigned_coordinate.specs.declared.UnsignedPair.{UnsignedPair}
-use Rattle.unsigned_coordinate.specs.declared.UnsignedPair.the-variants as unsigned-pair
+use Rattle.coordinate.specs.{declared.Coordinate.Coordinate, declared.Pair.Pair, declared.Triple.Triple}
+use Rattle.unsigned_coordinate.specs.{declared.UnsignedCoordinate.UnsignedCoordinate, declared.UnsignedPair.UnsignedPair}
 use Rattle.unsigned_coordinate.specs.declared.UnsignedTriple.{UnsignedTriple}
-use Rattle.unsigned_coordinate.specs.declared.UnsignedTriple.the-variants as unsigned-triple
 
 below-zero : (v : ℤ) → ltZ v (pos 0) ≡ isNegative v
 below-zero (pos n) = le-ltb n 0 (omega arith)
@@ -69,43 +59,43 @@ module _ (a : ℤ) (fa : SFits w64 a) where
   sized x ex = ex ∙ abs′ a fa
 
 module _ (a : ℤ) (fa : SFits w64 a) (m : Bool) (em : m ≡ isNegative (toZ w64 (ofZ w64 a))) where
-  pub one-negative′ : m ≡ true → unsigned-coordinate.Refused IllegalParameterValue ≡ unsignedOf (coordinate.Value a)
+  pub one-negative′ : m ≡ true → UnsignedCoordinate.Refused IllegalParameterValue ≡ unsignedOf (Coordinate.Value a)
   unfolding unsignedOf
   one-negative′ k = rw (← told a fa m em, k)
 
-  pub one′ : m ≡ false → (x : ℕ) → x ≡ natAbs (toZ w64 (ofZ w64 a)) → unsigned-coordinate.Value x ≡ unsignedOf (coordinate.Value a)
+  pub one′ : m ≡ false → (x : ℕ) → x ≡ natAbs (toZ w64 (ofZ w64 a)) → UnsignedCoordinate.Value x ≡ unsignedOf (Coordinate.Value a)
   unfolding unsignedOf
   one′ k x ex = rw (← told a fa m em, k, sized a fa x ex)
 
   module _ (b : ℤ) (fb : SFits w64 b) where
-    pub two-first′ : m ≡ true → unsigned-pair.Refused IllegalParameterValue ≡ unsignedPairOf (pair.Values a b)
+    pub two-first′ : m ≡ true → UnsignedPair.Refused IllegalParameterValue ≡ unsignedPairOf (Pair.Values a b)
     unfolding unsignedPairOf
     two-first′ k = rw (← told a fa m em, k)
 
-    pub three-first′ : (d : ℤ) → m ≡ true → unsigned-triple.Refused IllegalParameterValue ≡ unsignedTripleOf (triple.Values a b d)
+    pub three-first′ : (d : ℤ) → m ≡ true → UnsignedTriple.Refused IllegalParameterValue ≡ unsignedTripleOf (Triple.Values a b d)
     unfolding unsignedTripleOf
     three-first′ d k = rw (← told a fa m em, k)
 
     module _ (k : m ≡ false) (n : Bool) (en : n ≡ isNegative (toZ w64 (ofZ w64 b))) where
-      pub two-second′ : n ≡ true → unsigned-pair.Refused IllegalParameterValue ≡ unsignedPairOf (pair.Values a b)
+      pub two-second′ : n ≡ true → UnsignedPair.Refused IllegalParameterValue ≡ unsignedPairOf (Pair.Values a b)
       unfolding unsignedPairOf
       two-second′ l = rw (← told a fa m em, k, ← told b fb n en, l)
 
-      pub two′ : n ≡ false → (x y : ℕ) → x ≡ natAbs (toZ w64 (ofZ w64 a)) → y ≡ natAbs (toZ w64 (ofZ w64 b)) → unsigned-pair.Values x y ≡ unsignedPairOf (pair.Values a b)
+      pub two′ : n ≡ false → (x y : ℕ) → x ≡ natAbs (toZ w64 (ofZ w64 a)) → y ≡ natAbs (toZ w64 (ofZ w64 b)) → UnsignedPair.Values x y ≡ unsignedPairOf (Pair.Values a b)
       unfolding unsignedPairOf
       two′ l x y ex ey = rw (← told a fa m em, k, ← told b fb n en, l, sized a fa x ex, sized b fb y ey)
 
       module _ (d : ℤ) (fd : SFits w64 d) where
-        pub three-second′ : n ≡ true → unsigned-triple.Refused IllegalParameterValue ≡ unsignedTripleOf (triple.Values a b d)
+        pub three-second′ : n ≡ true → UnsignedTriple.Refused IllegalParameterValue ≡ unsignedTripleOf (Triple.Values a b d)
         unfolding unsignedTripleOf
         three-second′ l = rw (← told a fa m em, k, ← told b fb n en, l)
 
         module _ (l : n ≡ false) (o : Bool) (eo : o ≡ isNegative (toZ w64 (ofZ w64 d))) where
-          pub three-third′ : o ≡ true → unsigned-triple.Refused IllegalParameterValue ≡ unsignedTripleOf (triple.Values a b d)
+          pub three-third′ : o ≡ true → UnsignedTriple.Refused IllegalParameterValue ≡ unsignedTripleOf (Triple.Values a b d)
           unfolding unsignedTripleOf
           three-third′ i = rw (← told a fa m em, k, ← told b fb n en, l, ← told d fd o eo, i)
 
-          pub three′ : o ≡ false → (x y z : ℕ) → x ≡ natAbs (toZ w64 (ofZ w64 a)) → y ≡ natAbs (toZ w64 (ofZ w64 b)) → z ≡ natAbs (toZ w64 (ofZ w64 d)) → unsigned-triple.Values x y z ≡ unsignedTripleOf (triple.Values a b d)
+          pub three′ : o ≡ false → (x y z : ℕ) → x ≡ natAbs (toZ w64 (ofZ w64 a)) → y ≡ natAbs (toZ w64 (ofZ w64 b)) → z ≡ natAbs (toZ w64 (ofZ w64 d)) → UnsignedTriple.Values x y z ≡ unsignedTripleOf (Triple.Values a b d)
           unfolding unsignedTripleOf
           three′ i x y z ex ey ez = rw (← told a fa m em, k, ← told b fb n en, l, ← told d fd o eo, i, sized a fa x ex, sized b fb y ey, sized d fd z ez)
 
@@ -113,27 +103,27 @@ pub ruleset signs = (needs, not-negative′, one-negative′, one′, two-first�
 
 -- what was read, by its case
 module _ (c r : Coordinate) (er : r ≡ c) where
-  pub one-refused′ : (e : ErrorCode) → r ≡ coordinate.Refused e → unsigned-coordinate.Refused e ≡ unsignedOf c
+  pub one-refused′ : (e : ErrorCode) → r ≡ Coordinate.Refused e → UnsignedCoordinate.Refused e ≡ unsignedOf c
   unfolding unsignedOf
   one-refused′ e q = rw (← er, q)
 
-  pub one-read′ : (a : ℤ) → r ≡ coordinate.Value a → (x : UnsignedCoordinate) → x ≡ unsignedOf (coordinate.Value a) → x ≡ unsignedOf c
+  pub one-read′ : (a : ℤ) → r ≡ Coordinate.Value a → (x : UnsignedCoordinate) → x ≡ unsignedOf (Coordinate.Value a) → x ≡ unsignedOf c
   one-read′ a q x ex = ex ∙ rw (← er, q)
 
 module _ (c r : Pair) (er : r ≡ c) where
-  pub two-refused′ : (e : ErrorCode) → r ≡ pair.Refused e → unsigned-pair.Refused e ≡ unsignedPairOf c
+  pub two-refused′ : (e : ErrorCode) → r ≡ Pair.Refused e → UnsignedPair.Refused e ≡ unsignedPairOf c
   unfolding unsignedPairOf
   two-refused′ e q = rw (← er, q)
 
-  pub two-read′ : (a b : ℤ) → r ≡ pair.Values a b → (x : UnsignedPair) → x ≡ unsignedPairOf (pair.Values a b) → x ≡ unsignedPairOf c
+  pub two-read′ : (a b : ℤ) → r ≡ Pair.Values a b → (x : UnsignedPair) → x ≡ unsignedPairOf (Pair.Values a b) → x ≡ unsignedPairOf c
   two-read′ a b q x ex = ex ∙ rw (← er, q)
 
 module _ (c r : Triple) (er : r ≡ c) where
-  pub three-refused′ : (e : ErrorCode) → r ≡ triple.Refused e → unsigned-triple.Refused e ≡ unsignedTripleOf c
+  pub three-refused′ : (e : ErrorCode) → r ≡ Triple.Refused e → UnsignedTriple.Refused e ≡ unsignedTripleOf c
   unfolding unsignedTripleOf
   three-refused′ e q = rw (← er, q)
 
-  pub three-read′ : (a b d : ℤ) → r ≡ triple.Values a b d → (x : UnsignedTriple) → x ≡ unsignedTripleOf (triple.Values a b d) → x ≡ unsignedTripleOf c
+  pub three-read′ : (a b d : ℤ) → r ≡ Triple.Values a b d → (x : UnsignedTriple) → x ≡ unsignedTripleOf (Triple.Values a b d) → x ≡ unsignedTripleOf c
   three-read′ a b d q x ex = ex ∙ rw (← er, q)
 
 pub ruleset laws = (needs, one-refused′, one-read′, two-refused′, two-read′, three-refused′, three-read′)

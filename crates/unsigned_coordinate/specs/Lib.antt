@@ -1,2 +1,1 @@
 pub mod Unsigned
-pub mod Claims

@@ -1,6 +1,6 @@
 // Runs that the readers pass over. tokenizer/util.rs of the original.
 ghost use mathlib.Core.Path.{_≡_};
-ghost use Rattle.kind.specs.Class.{isWhiteSpace, isDigit};
+ghost use Rattle.kind.specs.Class.{isWhiteSpace, isDigit, isSmall};
 ghost use Rattle.util.specs.Run.{runEnd, signEnd, standsAt, least};
 
 // The place behind the white space that begins at a place.
@@ -24,6 +24,20 @@ pub fn skip_digits(s: &[u8], at: usize) -> usize
     let mut end = at;
     while end < s.len() {
         if !kind::is_digit(s[end]) {
+            return end;
+        }
+        end += 1;
+    }
+    end
+}
+
+// The place behind the small letters that begin at a place.
+pub fn skip_small(s: &[u8], at: usize) -> usize
+    ensures { λ r. ⌜ r ≡ runEnd isSmall (now (s .entry)) at ⌝ }
+{
+    let mut end = at;
+    while end < s.len() {
+        if !kind::is_small(s[end]) {
             return end;
         }
         end += 1;

@@ -15,15 +15,13 @@ use Rattle.channel_list.specs.declared.Token as channel-token
 use Rattle.channel_list.specs.declared.Answer as channel-answer
 use Rattle.channel_list.specs.declared.Step as channel-step
 use Rattle.channel_list.specs.declared.Opened.{Opened}
-use Rattle.channel_list.specs.declared.Opened.the-variants as opens
 use Rattle.numeric_list.specs.declared.Token as numeric-token
 use Rattle.numeric_list.specs.declared.Answer as numeric-answer
 use Rattle.numeric_list.specs.declared.Step as numeric-step
-use Rattle.words.specs.Outcome.{Outcome}
+use Rattle.words.specs.{Outcome.Outcome, declared.Said.Said}
 use Rattle.words.specs.Words.{isSet, plainOf, refusedOf, leftIn}
 use Rattle.words.specs.Token.{tokenItem, tokenSaid, tokenState, tokenLeft}
 use Rattle.words.specs.Lists.{openedLeft, channelItem, channelSaid, channelState, channelLeft, numericItem, numericSaid, numericState, numericLeft}
-use Rattle.words.specs.declared.Said.{Said}
 
 -- told by the case that a token or an answer is
 by-case : {A : Type 0} (f : A → Said) (r : Said) (t u : A) → t ≡ u → r ≡ f u → r ≡ f t
@@ -91,11 +89,11 @@ module _ (words : List ℕ) (o : Outcome ℕ) (a : Said) where
   numeric′ x ea e = e ∙ rw ea
 
   module _ (end : ℕ) (x : Opened) where
-    pub opened′ : (st : channel-state.State) → x ≡ opens.List st → a ≡ plainOf 0 → o ≡ leftIn words (st .place) (st .first) 0 a → o ≡ openedLeft words end x
+    pub opened′ : (st : channel-state.State) → x ≡ Opened.List st → a ≡ plainOf 0 → o ≡ leftIn words (st .place) (st .first) 0 a → o ≡ openedLeft words end x
     unfolding openedLeft
     opened′ st q ea e = e ∙ rw (ea, q)
 
-    pub not-one′ : x ≡ opens.NotOne → a ≡ refusedOf InvalidExpression → o ≡ leftIn words end true 0 a → o ≡ openedLeft words end x
+    pub not-one′ : x ≡ Opened.NotOne → a ≡ refusedOf InvalidExpression → o ≡ leftIn words end true 0 a → o ≡ openedLeft words end x
     unfolding openedLeft
     not-one′ q ea e = e ∙ rw (ea, q)
 

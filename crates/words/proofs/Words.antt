@@ -10,13 +10,10 @@ use lib.ListN.{length, getD, drop, set, length-set}
 use lib.Dec.{lit<}
 use borrow.Author.Needs.{needs}
 use borrow.Author.Tests.{le-leb, lt-leb}
-use Rattle.error.specs.Code.{codeOf}
-use Rattle.error.specs.declared.ErrorCode.{ErrorCode}
-use Rattle.error.specs.declared.ErrorCode.the-variants.{NoSlotLeft}
+use Rattle.error.specs.{Code.codeOf, declared.ErrorCode.ErrorCode, declared.ErrorCode.the-variants.NoSlotLeft}
 use Rattle.record.specs.Word.{bit}
-use Rattle.words.specs.Outcome.{Outcome}
+use Rattle.words.specs.{Outcome.Outcome, declared.Said.Said}
 use Rattle.words.specs.Words.{saidOf, refusedOf, leftIn}
-use Rattle.words.specs.declared.Said.{Said}
 
 eight : (l : List ℕ) (a b c d e f g h : ℕ) → 8 ≤ length l
     → set (set (set (set (set (set (set (set l 0 a) 1 b) 2 c) 3 d) 4 e) 5 f) 6 g) 7 h ≡ a ∷ b ∷ c ∷ d ∷ e ∷ f ∷ g ∷ h ∷ drop 8 l

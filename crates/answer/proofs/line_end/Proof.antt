@@ -1,46 +1,15 @@
 use Prim.Native.Nat.{_-_, _≤_}
 use lib.ListN.{length}
 use Rattle.answer.proofs.Laws.{laws}
-use Rattle.answer.proofs.line_end.Statement.{statement}
-use Rattle.answer.proofs.line_end.Tie as tie
+use Rattle.answer.proofs.line_end as f
 
-abbrev Inv-loop : tie.InvT-loop
+abbrev Inv-loop : f.Tie.InvT-loop
 Inv-loop input at i₀ i = (at ≤ i) × (i ≤ length input)
 
-abbrev μ-loop : tie.MeasureT-loop
+abbrev μ-loop : f.Tie.MeasureT-loop
 μ-loop input at i₀ i = length input - i
 
-loop-holds : tie.Need-loop-holds Inv-loop μ-loop
-loop-holds c = search laws
-
-shared-slice-read-if1 : tie.Need-shared-slice-read-if1 Inv-loop μ-loop
-shared-slice-read-if1 c = search laws
-
-returns : tie.Need-returns Inv-loop μ-loop
-returns c = search laws
-
-add-i : tie.Need-add-i Inv-loop μ-loop
-add-i c = search laws
-
-loop-less : tie.Need-loop-less Inv-loop μ-loop
-loop-less c = search laws
-
-loop-again : tie.Need-loop-again Inv-loop μ-loop
-loop-again c = search laws
-
-returns-2 : tie.Need-returns-2 Inv-loop μ-loop
-returns-2 c = search laws
-
-pub line-end-spec : {M : Type 1} → statement M
+pub line-end-spec : {M : Type 1} → f.Statement.statement M
 line-end-spec =
-    tie.close
-    (tie.spec
-    Inv-loop
-    μ-loop
-    loop-holds
-    shared-slice-read-if1
-    returns
-    add-i
-    loop-less
-    loop-again
-    returns-2)
+    f.Tie.close (f.Tie.spec Inv-loop μ-loop (λ c. search laws) (λ c. search laws) (λ c. search laws) (λ c. search laws)
+    (λ c. search laws) (λ c. search laws) (λ c. search laws))

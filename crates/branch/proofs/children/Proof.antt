@@ -1,17 +1,8 @@
 use Rattle.branch.proofs.Blocks.{children-laws}
-use Rattle.branch.proofs.children.Statement.{statement}
-use Rattle.branch.proofs.children.Tie as tie
+use Rattle.branch.proofs.children as f
 
-pub children-spec : {M : Type 1} → statement M
+pub children-spec : {M : Type 1} → f.Statement.statement M
 children-spec =
-    tie.close
-    (tie.spec
-    (λ c. search children-laws)
-    (λ c. search children-laws)
-    (λ c. search children-laws)
-    (λ c κs. search children-laws)
-    (λ c. search children-laws)
-    (λ c κs. search children-laws)
-    (λ c. search children-laws)
-    (λ c. search children-laws)
-    (λ c. search children-laws))
+    f.Tie.close (f.Tie.spec (λ c. search children-laws) (λ c. search children-laws) (λ c. search children-laws)
+    (λ c κs. search children-laws) (λ c. search children-laws) (λ c κs. search children-laws) (λ c. search children-laws)
+    (λ c. search children-laws) (λ c. search children-laws))

@@ -1,8 +1,7 @@
 use Rattle.branch.proofs.Blocks.{branch-laws}
-use Rattle.branch.proofs.is_branch.Statement.{statement}
-use Rattle.branch.proofs.is_branch.Tie as tie
+use Rattle.branch.proofs.is_branch as f
 
-pub is-branch-spec : {M : Type 1} → statement M
+pub is-branch-spec : {M : Type 1} → f.Statement.statement M
 is-branch-spec =
-    tie.close
-    (tie.spec (λ c. search branch-laws) (λ c. search branch-laws) (λ c κs. search branch-laws) (λ c. search branch-laws) (λ c. search branch-laws))
+    f.Tie.close (f.Tie.spec (λ c. search branch-laws) (λ c. search branch-laws) (λ c κs. search branch-laws)
+    (λ c. search branch-laws) (λ c. search branch-laws))

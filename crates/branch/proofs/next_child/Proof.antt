@@ -1,6 +1,5 @@
 use Rattle.branch.proofs.Blocks.{next-laws}
-use Rattle.branch.proofs.next_child.Statement.{statement}
-use Rattle.branch.proofs.next_child.Tie as tie
+use Rattle.branch.proofs.next_child as f
 
-pub next-child-spec : {M : Type 1} → statement M
-next-child-spec = tie.close (tie.spec (λ c. search next-laws) (λ c. search next-laws) (λ c. search next-laws))
+pub next-child-spec : {M : Type 1} → f.Statement.statement M
+next-child-spec = f.Tie.close (f.Tie.spec (λ c. search next-laws) (λ c. search next-laws) (λ c. search next-laws))

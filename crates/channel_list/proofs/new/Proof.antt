@@ -1,15 +1,5 @@
 use Rattle.channel_list.proofs.Steps.{parts}
-use Rattle.channel_list.proofs.new.Statement.{statement}
-use Rattle.channel_list.proofs.new.Tie as tie
+use Rattle.channel_list.proofs.new as f
 
-stands-requires : tie.Need-stands-requires
-stands-requires c κs = search parts
-
-returns : tie.Need-returns
-returns c = search parts
-
-returns-2 : tie.Need-returns-2
-returns-2 c = search parts
-
-pub new-spec : {M : Type 1} → statement M
-new-spec = tie.close (tie.spec stands-requires returns returns-2)
+pub new-spec : {M : Type 1} → f.Statement.statement M
+new-spec = f.Tie.close (f.Tie.spec (λ c κs. search parts) (λ c. search parts) (λ c. search parts))

@@ -1,40 +1,7 @@
 use Rattle.coordinate.proofs.Coordinates.{reads}
-use Rattle.coordinate.proofs.read_last.Statement.{statement}
-use Rattle.coordinate.proofs.read_last.Tie as tie
+use Rattle.coordinate.proofs.read_last as f
 
-read-signed-requires : tie.Need-read-signed-requires
-read-signed-requires c κs = search reads
-
-enum-known-value : tie.Need-enum-known-value
-enum-known-value c = search reads
-
-returns : tie.Need-returns
-returns c = search reads
-
-enum-told : tie.Need-enum-told
-enum-told c = search reads
-
-enum-told-2 : tie.Need-enum-told-2
-enum-told-2 c = search reads
-
-returns-2 : tie.Need-returns-2
-returns-2 c = search reads
-
-returns-3 : tie.Need-returns-3
-returns-3 c = search reads
-
-returns-4 : tie.Need-returns-4
-returns-4 c = search reads
-
-pub read-last-spec : {M : Type 1} → statement M
+pub read-last-spec : {M : Type 1} → f.Statement.statement M
 read-last-spec =
-    tie.close
-    (tie.spec
-    read-signed-requires
-    enum-known-value
-    returns
-    enum-told
-    enum-told-2
-    returns-2
-    returns-3
-    returns-4)
+    f.Tie.close (f.Tie.spec (λ c κs. search reads) (λ c. search reads) (λ c. search reads) (λ c. search reads) (λ c. search reads)
+    (λ c. search reads) (λ c. search reads) (λ c. search reads))

@@ -1,12 +1,5 @@
 use Rattle.decimal.proofs.Decimals.{numbers}
-use Rattle.decimal.proofs.begins_exponent.Statement.{statement}
-use Rattle.decimal.proofs.begins_exponent.Tie as tie
+use Rattle.decimal.proofs.begins_exponent as f
 
-returns : tie.Need-returns
-returns c = search numbers
-
-returns-2 : tie.Need-returns-2
-returns-2 c = search numbers
-
-pub begins-exponent-spec : {M : Type 1} → statement M
-begins-exponent-spec = tie.close (tie.spec returns returns-2)
+pub begins-exponent-spec : {M : Type 1} → f.Statement.statement M
+begins-exponent-spec = f.Tie.close (f.Tie.spec (λ c. search numbers) (λ c. search numbers))

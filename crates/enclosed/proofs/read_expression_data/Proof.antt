@@ -1,36 +1,7 @@
 use Rattle.enclosed.proofs.Expressions.{laws}
-use Rattle.enclosed.proofs.read_expression_data.Statement.{statement}
-use Rattle.enclosed.proofs.read_expression_data.Tie as tie
+use Rattle.enclosed.proofs.read_expression_data as f
 
-expression-end-requires : tie.Need-expression-end-requires
-expression-end-requires c κs = search laws
-
-returns : tie.Need-returns
-returns c = search laws
-
-shared-slice-read-if2 : tie.Need-shared-slice-read-if2
-shared-slice-read-if2 c = search laws
-
-returns-2 : tie.Need-returns-2
-returns-2 c = search laws
-
-add-skip-ws-to-separator : tie.Need-add-skip-ws-to-separator
-add-skip-ws-to-separator c = search laws
-
-skip-ws-to-separator-requires : tie.Need-skip-ws-to-separator-requires
-skip-ws-to-separator-requires c κs = search laws
-
-returns-3 : tie.Need-returns-3
-returns-3 c = search laws
-
-pub read-expression-data-spec : {M : Type 1} → statement M
+pub read-expression-data-spec : {M : Type 1} → f.Statement.statement M
 read-expression-data-spec =
-    tie.close
-    (tie.spec
-    expression-end-requires
-    returns
-    shared-slice-read-if2
-    returns-2
-    add-skip-ws-to-separator
-    skip-ws-to-separator-requires
-    returns-3)
+    f.Tie.close (f.Tie.spec (λ c κs. search laws) (λ c. search laws) (λ c. search laws) (λ c. search laws) (λ c. search laws)
+    (λ c κs. search laws) (λ c. search laws))

@@ -1,4 +1,4 @@
-use Rattle.header.proofs.Settled.{settle-laws}
+use Rattle.header.proofs.{Settled.settle-laws, +default_leaf.statement, +default_leaf.Tie.close}
 use Prim.Native.Nat.{ℕ, _-_, _<_}
 use lib.ListN.{length}
 use borrow.Fn.Kinds.{In}
@@ -9,8 +9,6 @@ use Rattle.header.proofs.+default_leaf.Lts-default_leaf as default-leaf
 use Rattle.branch.proofs.children.Reads as children-reads
 use Rattle.branch.proofs.default_in.Reads as default-in-reads
 use Rattle.branch.proofs.is_branch.Reads as is-branch-reads
-use Rattle.header.proofs.+default_leaf.{statement}
-use Rattle.header.proofs.+default_leaf.Tie.{close}
 
 abbrev μ-default-leaf : Measures 2 default-leaf-kinds.ps ℕ
 μ-default-leaf κs a = length (a .0 .now .now) - a .1 .0

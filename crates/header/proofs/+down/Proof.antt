@@ -16,8 +16,7 @@ use Rattle.header.proofs.goes_on.Reads as goes-on-reads
 use Rattle.header.proofs.stops.Reads as stops-reads
 use Rattle.spoken.proofs.spelled_in.Reads as spelled-in-reads
 use Rattle.util.proofs.stands.Reads as stands-reads
-use Rattle.header.proofs.+down.{statement}
-use Rattle.header.proofs.+down.Tie.{close}
+use Rattle.header.proofs.{+down.statement, +down.Tie.close}
 
 abbrev μ-down : Measures 9 down-kinds.ps ℕ
 μ-down κs a = length (a .0 .now .now) - a .1 .1 .1 .0

@@ -1,6 +1,7 @@
 use Rattle.header.proofs.Places.{after-laws}
-use Rattle.header.proofs.after.Statement.{statement}
-use Rattle.header.proofs.after.Tie as tie
+use Rattle.header.proofs.after as f
 
-pub after-spec : {M : Type 1} → statement M
-after-spec = tie.close (tie.spec (λ c. search after-laws) (λ c. search after-laws) (λ c. search after-laws) (λ c. search after-laws) (λ c. search after-laws))
+pub after-spec : {M : Type 1} → f.Statement.statement M
+after-spec =
+    f.Tie.close (f.Tie.spec (λ c. search after-laws) (λ c. search after-laws) (λ c. search after-laws) (λ c. search after-laws)
+    (λ c. search after-laws))

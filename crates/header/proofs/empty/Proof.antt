@@ -1,14 +1,7 @@
 use Rattle.header.proofs.Settled.{empty-laws}
-use Rattle.header.proofs.empty.Statement.{statement}
-use Rattle.header.proofs.empty.Tie as tie
+use Rattle.header.proofs.empty as f
 
-pub empty-spec : {M : Type 1} → statement M
+pub empty-spec : {M : Type 1} → f.Statement.statement M
 empty-spec =
-    tie.close
-    (tie.spec
-    (λ c κs. search empty-laws)
-    (λ c. search empty-laws)
-    (λ c. search empty-laws)
-    (λ c. search empty-laws)
-    (λ c κs. search empty-laws)
-    (λ c. search empty-laws))
+    f.Tie.close (f.Tie.spec (λ c κs. search empty-laws) (λ c. search empty-laws) (λ c. search empty-laws) (λ c. search empty-laws)
+    (λ c κs. search empty-laws) (λ c. search empty-laws))

@@ -1,22 +1,9 @@
 use Rattle.header.proofs.Endings.{ending-laws}
-use Rattle.header.proofs.ending.Statement.{statement}
-use Rattle.header.proofs.ending.Tie as tie
+use Rattle.header.proofs.ending as f
 
-pub ending-spec : {M : Type 1} → statement M
+pub ending-spec : {M : Type 1} → f.Statement.statement M
 ending-spec =
-    tie.close
-    (tie.spec
-    (λ c κs. search ending-laws)
-    (λ c κs. search ending-laws)
-    (λ c κs. search ending-laws)
-    (λ c. search ending-laws)
-    (λ c. search ending-laws)
-    (λ c. search ending-laws)
-    (λ c κs. search ending-laws)
-    (λ c. search ending-laws)
-    (λ c κs. search ending-laws)
-    (λ c κs. search ending-laws)
-    (λ c κs. search ending-laws)
-    (λ c. search ending-laws)
-    (λ c. search ending-laws)
-    (λ c. search ending-laws))
+    f.Tie.close (f.Tie.spec (λ c κs. search ending-laws) (λ c κs. search ending-laws) (λ c κs. search ending-laws)
+    (λ c. search ending-laws) (λ c. search ending-laws) (λ c. search ending-laws) (λ c κs. search ending-laws)
+    (λ c. search ending-laws) (λ c κs. search ending-laws) (λ c κs. search ending-laws) (λ c κs. search ending-laws)
+    (λ c. search ending-laws) (λ c. search ending-laws) (λ c. search ending-laws))

@@ -1,14 +1,7 @@
 use Rattle.header.proofs.Places.{ends-laws}
-use Rattle.header.proofs.ends.Statement.{statement}
-use Rattle.header.proofs.ends.Tie as tie
+use Rattle.header.proofs.ends as f
 
-pub ends-spec : {M : Type 1} → statement M
+pub ends-spec : {M : Type 1} → f.Statement.statement M
 ends-spec =
-    tie.close
-    (tie.spec
-    (λ c κs. search ends-laws)
-    (λ c. search ends-laws)
-    (λ c. search ends-laws)
-    (λ c. search ends-laws)
-    (λ c. search ends-laws)
-    (λ c. search ends-laws))
+    f.Tie.close (f.Tie.spec (λ c κs. search ends-laws) (λ c. search ends-laws) (λ c. search ends-laws) (λ c. search ends-laws)
+    (λ c. search ends-laws) (λ c. search ends-laws))

@@ -1,8 +1,7 @@
 use Rattle.header.proofs.Places.{goes-on-laws}
-use Rattle.header.proofs.goes_on.Statement.{statement}
-use Rattle.header.proofs.goes_on.Tie as tie
+use Rattle.header.proofs.goes_on as f
 
-pub goes-on-spec : {M : Type 1} → statement M
+pub goes-on-spec : {M : Type 1} → f.Statement.statement M
 goes-on-spec =
-    tie.close
-    (tie.spec (λ c. search goes-on-laws) (λ c. search goes-on-laws) (λ c. search goes-on-laws) (λ c. search goes-on-laws) (λ c κs. search goes-on-laws) (λ c. search goes-on-laws))
+    f.Tie.close (f.Tie.spec (λ c. search goes-on-laws) (λ c. search goes-on-laws) (λ c. search goes-on-laws)
+    (λ c. search goes-on-laws) (λ c κs. search goes-on-laws) (λ c. search goes-on-laws))

@@ -1,20 +1,8 @@
 use Rattle.header.proofs.Fronts.{other-laws}
-use Rattle.header.proofs.other.Statement.{statement}
-use Rattle.header.proofs.other.Tie as tie
+use Rattle.header.proofs.other as f
 
-pub other-spec : {M : Type 1} → statement M
+pub other-spec : {M : Type 1} → f.Statement.statement M
 other-spec =
-    tie.close
-    (tie.spec
-    (λ c κs. search other-laws)
-    (λ c. search other-laws)
-    (λ c. search other-laws)
-    (λ c. search other-laws)
-    (λ c. search other-laws)
-    (λ c. search other-laws)
-    (λ c κs. search other-laws)
-    (λ c. search other-laws)
-    (λ c. search other-laws)
-    (λ c. search other-laws)
-    (λ c. search other-laws)
-    (λ c. search other-laws))
+    f.Tie.close (f.Tie.spec (λ c κs. search other-laws) (λ c. search other-laws) (λ c. search other-laws) (λ c. search other-laws)
+    (λ c. search other-laws) (λ c. search other-laws) (λ c κs. search other-laws) (λ c. search other-laws)
+    (λ c. search other-laws) (λ c. search other-laws) (λ c. search other-laws) (λ c. search other-laws))

@@ -1,19 +1,8 @@
 use Rattle.header.proofs.Tokens.{leaf-laws}
-use Rattle.header.proofs.query.Statement.{statement}
-use Rattle.header.proofs.query.Tie as tie
+use Rattle.header.proofs.query as f
 
-pub query-spec : {M : Type 1} → statement M
+pub query-spec : {M : Type 1} → f.Statement.statement M
 query-spec =
-    tie.close
-    (tie.spec
-    (λ c. search leaf-laws)
-    (λ c κs. search leaf-laws)
-    (λ c. search leaf-laws)
-    (λ c. search leaf-laws)
-    (λ c. search leaf-laws)
-    (λ c. search leaf-laws)
-    (λ c. search leaf-laws)
-    (λ c. search leaf-laws)
-    (λ c. search leaf-laws)
-    (λ c. search leaf-laws)
-    (λ c. search leaf-laws))
+    f.Tie.close (f.Tie.spec (λ c. search leaf-laws) (λ c κs. search leaf-laws) (λ c. search leaf-laws) (λ c. search leaf-laws)
+    (λ c. search leaf-laws) (λ c. search leaf-laws) (λ c. search leaf-laws) (λ c. search leaf-laws) (λ c. search leaf-laws)
+    (λ c. search leaf-laws) (λ c. search leaf-laws))

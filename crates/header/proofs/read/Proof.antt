@@ -1,23 +1,9 @@
 use Rattle.header.proofs.Fronts.{read-laws}
-use Rattle.header.proofs.read.Statement.{statement}
-use Rattle.header.proofs.read.Tie as tie
+use Rattle.header.proofs.read as f
 
-pub read-spec : {M : Type 1} → statement M
+pub read-spec : {M : Type 1} → f.Statement.statement M
 read-spec =
-    tie.close
-    (tie.spec
-    (λ c κs. search read-laws)
-    (λ c. search read-laws)
-    (λ c κs. search read-laws)
-    (λ c. search read-laws)
-    (λ c κs. search read-laws)
-    (λ c. search read-laws)
-    (λ c κs. search read-laws)
-    (λ c κs. search read-laws)
-    (λ c. search read-laws)
-    (λ c κs. search read-laws)
-    (λ c. search read-laws)
-    (λ c. search read-laws)
-    (λ c κs. search read-laws)
-    (λ c. search read-laws)
-    (λ c. search read-laws))
+    f.Tie.close (f.Tie.spec (λ c κs. search read-laws) (λ c. search read-laws) (λ c κs. search read-laws) (λ c. search read-laws)
+    (λ c κs. search read-laws) (λ c. search read-laws) (λ c κs. search read-laws) (λ c κs. search read-laws)
+    (λ c. search read-laws) (λ c κs. search read-laws) (λ c. search read-laws) (λ c. search read-laws)
+    (λ c κs. search read-laws) (λ c. search read-laws) (λ c. search read-laws))

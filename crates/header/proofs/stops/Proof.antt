@@ -1,19 +1,8 @@
 use Rattle.header.proofs.Tokens.{token-laws}
-use Rattle.header.proofs.stops.Statement.{statement}
-use Rattle.header.proofs.stops.Tie as tie
+use Rattle.header.proofs.stops as f
 
-pub stops-spec : {M : Type 1} → statement M
+pub stops-spec : {M : Type 1} → f.Statement.statement M
 stops-spec =
-    tie.close
-    (tie.spec
-    (λ c κs. search token-laws)
-    (λ c. search token-laws)
-    (λ c. search token-laws)
-    (λ c. search token-laws)
-    (λ c. search token-laws)
-    (λ c. search token-laws)
-    (λ c. search token-laws)
-    (λ c. search token-laws)
-    (λ c. search token-laws)
-    (λ c. search token-laws)
-    (λ c. search token-laws))
+    f.Tie.close (f.Tie.spec (λ c κs. search token-laws) (λ c. search token-laws) (λ c. search token-laws) (λ c. search token-laws)
+    (λ c. search token-laws) (λ c. search token-laws) (λ c. search token-laws) (λ c. search token-laws) (λ c. search token-laws)
+    (λ c. search token-laws) (λ c. search token-laws))

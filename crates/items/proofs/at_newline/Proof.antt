@@ -1,7 +1,7 @@
 use Rattle.items.proofs.Forms.{newlines}
-use Rattle.items.proofs.at_newline.Statement.{statement}
-use Rattle.items.proofs.at_newline.Tie as tie
+use Rattle.items.proofs.at_newline as f
 
-pub at-newline-spec : {M : Type 1} → statement M
+pub at-newline-spec : {M : Type 1} → f.Statement.statement M
 at-newline-spec =
-    tie.close (tie.spec (λ c κs. search newlines) (λ c. search newlines) (λ c. search newlines) (λ c. search newlines) (λ c. search newlines))
+    f.Tie.close (f.Tie.spec (λ c κs. search newlines) (λ c. search newlines) (λ c. search newlines) (λ c. search newlines)
+    (λ c. search newlines))

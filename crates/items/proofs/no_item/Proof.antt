@@ -1,8 +1,7 @@
 use Rattle.items.proofs.Forms.{bares}
-use Rattle.items.proofs.no_item.Statement.{statement}
-use Rattle.items.proofs.no_item.Tie as tie
+use Rattle.items.proofs.no_item as f
 
-pub no-item-spec : {M : Type 1} → statement M
+pub no-item-spec : {M : Type 1} → f.Statement.statement M
 no-item-spec =
-    tie.close
-    (tie.spec (λ c κs. search bares) (λ c. search bares) (λ c. search bares) (λ c. search bares) (λ c. search bares) (λ c. search bares) (λ c. search bares))
+    f.Tie.close (f.Tie.spec (λ c κs. search bares) (λ c. search bares) (λ c. search bares) (λ c. search bares) (λ c. search bares)
+    (λ c. search bares) (λ c. search bares))

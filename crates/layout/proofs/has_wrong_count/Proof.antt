@@ -1,6 +1,5 @@
 use Rattle.layout.proofs.Fields.{count-laws}
-use Rattle.layout.proofs.has_wrong_count.Statement.{statement}
-use Rattle.layout.proofs.has_wrong_count.Tie as tie
+use Rattle.layout.proofs.has_wrong_count as f
 
-pub has-wrong-count-spec : {M : Type 1} → statement M
-has-wrong-count-spec = tie.close (tie.spec (λ c. search count-laws) (λ c. search count-laws))
+pub has-wrong-count-spec : {M : Type 1} → f.Statement.statement M
+has-wrong-count-spec = f.Tie.close (f.Tie.spec (λ c. search count-laws) (λ c. search count-laws))

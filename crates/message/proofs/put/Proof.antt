@@ -1,6 +1,6 @@
 use borrow.Author.Needs.{needs}
-use Rattle.message.proofs.put.Statement.{statement}
-use Rattle.message.proofs.put.Tie as tie
+use Rattle.message.proofs.put as f
 
-pub put-spec : {M : Type 1} → statement M
-put-spec = tie.close (tie.spec (λ c. search needs) (λ c. search needs) (λ c. search needs) (λ c. search needs) (λ c. search needs))
+pub put-spec : {M : Type 1} → f.Statement.statement M
+put-spec =
+    f.Tie.close (f.Tie.spec (λ c. search needs) (λ c. search needs) (λ c. search needs) (λ c. search needs) (λ c. search needs))

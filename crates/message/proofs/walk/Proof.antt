@@ -1,15 +1,7 @@
 use Rattle.message.proofs.Entries.{checked-laws}
-use Rattle.message.proofs.walk.Statement.{statement}
-use Rattle.message.proofs.walk.Tie as tie
+use Rattle.message.proofs.walk as f
 
-pub walk-spec : {M : Type 1} → statement M
+pub walk-spec : {M : Type 1} → f.Statement.statement M
 walk-spec =
-    tie.close
-    (tie.spec
-    (λ c κs. search checked-laws)
-    (λ c. search checked-laws)
-    (λ c. search checked-laws)
-    (λ c κs. search checked-laws)
-    (λ c. search checked-laws)
-    (λ c. search checked-laws)
-    (λ c. search checked-laws))
+    f.Tie.close (f.Tie.spec (λ c κs. search checked-laws) (λ c. search checked-laws) (λ c. search checked-laws)
+    (λ c κs. search checked-laws) (λ c. search checked-laws) (λ c. search checked-laws) (λ c. search checked-laws))

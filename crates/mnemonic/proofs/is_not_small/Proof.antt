@@ -1,12 +1,5 @@
 use Rattle.mnemonic.proofs.Bytes.{laws}
-use Rattle.mnemonic.proofs.is_not_small.Statement.{statement}
-use Rattle.mnemonic.proofs.is_not_small.Tie as tie
+use Rattle.mnemonic.proofs.is_not_small as f
 
-is-small-requires : tie.Need-is-small-requires
-is-small-requires c κs = search laws
-
-returns : tie.Need-returns
-returns c = search laws
-
-pub is-not-small-spec : {M : Type 1} → statement M
-is-not-small-spec = tie.close (tie.spec is-small-requires returns)
+pub is-not-small-spec : {M : Type 1} → f.Statement.statement M
+is-not-small-spec = f.Tie.close (f.Tie.spec (λ c κs. search laws) (λ c. search laws))

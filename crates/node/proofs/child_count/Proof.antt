@@ -1,11 +1,10 @@
 use borrow.Author.Needs.{needs}
 use Rattle.node.specs.Word.{childCount}
-use Rattle.node.proofs.child_count.Statement.{statement}
-use Rattle.node.proofs.child_count.Tie as tie
+use Rattle.node.proofs.child_count as f
 
-returns : tie.Need-returns
+returns : f.Tie.Need-returns
 unfolding childCount
 returns c = search needs
 
-pub child-count-spec : {M : Type 1} → statement M
-child-count-spec = tie.close (tie.spec returns)
+pub child-count-spec : {M : Type 1} → f.Statement.statement M
+child-count-spec = f.Tie.close (f.Tie.spec returns)

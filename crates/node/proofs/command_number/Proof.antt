@@ -1,14 +1,10 @@
 use borrow.Author.Needs.{needs}
 use Rattle.node.specs.Word.{commandNumber}
-use Rattle.node.proofs.command_number.Statement.{statement}
-use Rattle.node.proofs.command_number.Tie as tie
+use Rattle.node.proofs.command_number as f
 
-cast-result : tie.Need-cast-result
-cast-result c = search needs
-
-returns : tie.Need-returns
+returns : f.Tie.Need-returns
 unfolding commandNumber
 returns c = search needs
 
-pub command-number-spec : {M : Type 1} → statement M
-command-number-spec = tie.close (tie.spec cast-result returns)
+pub command-number-spec : {M : Type 1} → f.Statement.statement M
+command-number-spec = f.Tie.close (f.Tie.spec (λ c. search needs) returns)

@@ -1,6 +1,5 @@
 use Rattle.node.proofs.Laws.{laws}
-use Rattle.node.proofs.initial.Statement.{statement}
-use Rattle.node.proofs.initial.Tie as tie
+use Rattle.node.proofs.initial as f
 
-pub initial-spec : {M : Type 1} → statement M
-initial-spec = tie.close (tie.spec (λ c κs. search laws) (λ c. search laws) (λ c. search laws) (λ c. search laws))
+pub initial-spec : {M : Type 1} → f.Statement.statement M
+initial-spec = f.Tie.close (f.Tie.spec (λ c κs. search laws) (λ c. search laws) (λ c. search laws) (λ c. search laws))

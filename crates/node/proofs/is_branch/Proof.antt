@@ -1,11 +1,10 @@
 use borrow.Author.Needs.{needs}
 use Rattle.node.specs.Word.{isBranch}
-use Rattle.node.proofs.is_branch.Statement.{statement}
-use Rattle.node.proofs.is_branch.Tie as tie
+use Rattle.node.proofs.is_branch as f
 
-returns : tie.Need-returns
+returns : f.Tie.Need-returns
 unfolding isBranch
 returns c = search needs
 
-pub is-branch-spec : {M : Type 1} → statement M
-is-branch-spec = tie.close (tie.spec returns)
+pub is-branch-spec : {M : Type 1} → f.Statement.statement M
+is-branch-spec = f.Tie.close (f.Tie.spec returns)

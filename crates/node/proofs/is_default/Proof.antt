@@ -1,11 +1,10 @@
 use borrow.Author.Needs.{needs}
 use Rattle.node.specs.Word.{isDefault}
-use Rattle.node.proofs.is_default.Statement.{statement}
-use Rattle.node.proofs.is_default.Tie as tie
+use Rattle.node.proofs.is_default as f
 
-returns : tie.Need-returns
+returns : f.Tie.Need-returns
 unfolding isDefault
 returns c = search needs
 
-pub is-default-spec : {M : Type 1} → statement M
-is-default-spec = tie.close (tie.spec returns)
+pub is-default-spec : {M : Type 1} → f.Statement.statement M
+is-default-spec = f.Tie.close (f.Tie.spec returns)

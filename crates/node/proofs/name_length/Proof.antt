@@ -1,11 +1,10 @@
 use borrow.Author.Needs.{needs}
 use Rattle.node.specs.Word.{nameLength}
-use Rattle.node.proofs.name_length.Statement.{statement}
-use Rattle.node.proofs.name_length.Tie as tie
+use Rattle.node.proofs.name_length as f
 
-returns : tie.Need-returns
+returns : f.Tie.Need-returns
 unfolding nameLength
 returns c = search needs
 
-pub name-length-spec : {M : Type 1} → statement M
-name-length-spec = tie.close (tie.spec returns)
+pub name-length-spec : {M : Type 1} → f.Statement.statement M
+name-length-spec = f.Tie.close (f.Tie.spec returns)

@@ -1,11 +1,10 @@
 use borrow.Author.Needs.{needs}
 use Rattle.node.specs.Word.{nameStart}
-use Rattle.node.proofs.name_start.Statement.{statement}
-use Rattle.node.proofs.name_start.Tie as tie
+use Rattle.node.proofs.name_start as f
 
-returns : tie.Need-returns
+returns : f.Tie.Need-returns
 unfolding nameStart
 returns c = search needs
 
-pub name-start-spec : {M : Type 1} → statement M
-name-start-spec = tie.close (tie.spec returns)
+pub name-start-spec : {M : Type 1} → f.Statement.statement M
+name-start-spec = f.Tie.close (f.Tie.spec returns)

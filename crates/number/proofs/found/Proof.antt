@@ -1,12 +1,5 @@
 use Rattle.number.proofs.Laws.{step}
-use Rattle.number.proofs.found.Statement.{statement}
-use Rattle.number.proofs.found.Tie as tie
+use Rattle.number.proofs.found as f
 
-returns : tie.Need-returns
-returns c = search step
-
-returns-2 : tie.Need-returns-2
-returns-2 c = search step
-
-pub found-spec : {M : Type 1} → statement M
-found-spec = tie.close (tie.spec returns returns-2)
+pub found-spec : {M : Type 1} → f.Statement.statement M
+found-spec = f.Tie.close (f.Tie.spec (λ c. search step) (λ c. search step))

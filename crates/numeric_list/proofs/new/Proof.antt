@@ -1,9 +1,5 @@
 use borrow.Author.Needs.{needs}
-use Rattle.numeric_list.proofs.new.Statement.{statement}
-use Rattle.numeric_list.proofs.new.Tie as tie
+use Rattle.numeric_list.proofs.new as f
 
-returns : tie.Need-returns
-returns c = search needs
-
-pub new-spec : {M : Type 1} → statement M
-new-spec = tie.close (tie.spec returns)
+pub new-spec : {M : Type 1} → f.Statement.statement M
+new-spec = f.Tie.close (f.Tie.spec (λ c. search needs))

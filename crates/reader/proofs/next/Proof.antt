@@ -45,8 +45,7 @@ use denote.Triple.Table.{entered, cited}
 use denote.Triple.Walked.{says, Stays, stay-ref, walkOf, goes-ref, Walks, ends-at, walked, walk-meets}
 use denote.Exit.{yes}
 use denote.Triple.Clauses.{ensured, lasts}
-use Rattle.tokenizer.specs.Step.{step}
-use Rattle.tokenizer.specs.declared.Step.{Step}
+use Rattle.tokenizer.specs.{Step.step, declared.Step.Step}
 use Rattle.tokenizer.proofs.Answer as N
 use Rattle.tokenizer.proofs.Answer.Laws as N′
 use Rattle.tokenizer.proofs.State as P

@@ -40,8 +40,7 @@ use denote.Triple.Table.{entered, cited}
 use denote.Triple.Walked.{says, Stays, stay-none, walkOf, goes-none, Walks, ends-at, walked, walk-meets}
 use denote.Exit.{yes}
 use denote.Triple.Clauses.{ensured, lasts}
-use Rattle.token.specs.View.{partOf}
-use Rattle.token.specs.declared.View.{View}
+use Rattle.token.specs.{View.partOf, declared.View.View}
 use Rattle.token.proofs.View as N
 use Rattle.token.proofs.View.Laws as N′
 use Rattle.token.proofs.part as plain

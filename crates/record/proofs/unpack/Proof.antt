@@ -1,12 +1,5 @@
 use Rattle.record.proofs.Words.{record-laws}
-use Rattle.record.proofs.unpack.Statement.{statement}
-use Rattle.record.proofs.unpack.Tie as tie
+use Rattle.record.proofs.unpack as f
 
-cast-t4 : tie.Need-cast-t4
-cast-t4 c = search record-laws
-
-returns : tie.Need-returns
-returns c = search record-laws
-
-pub unpack-spec : {M : Type 1} → statement M
-unpack-spec = tie.close (tie.spec cast-t4 returns)
+pub unpack-spec : {M : Type 1} → f.Statement.statement M
+unpack-spec = f.Tie.close (f.Tie.spec (λ c. search record-laws) (λ c. search record-laws))

@@ -1,12 +1,5 @@
 use Rattle.separator.proofs.Separators.{newlines}
-use Rattle.separator.proofs.newline.Statement.{statement}
-use Rattle.separator.proofs.newline.Tie as tie
+use Rattle.separator.proofs.newline as f
 
-returns : tie.Need-returns
-returns c = search newlines
-
-returns-2 : tie.Need-returns-2
-returns-2 c = search newlines
-
-pub newline-spec : {M : Type 1} → statement M
-newline-spec = tie.close (tie.spec returns returns-2)
+pub newline-spec : {M : Type 1} → f.Statement.statement M
+newline-spec = f.Tie.close (f.Tie.spec (λ c. search newlines) (λ c. search newlines))

@@ -1,17 +1,7 @@
 use Rattle.spoken.proofs.Bytes.{added-laws}
-use Rattle.spoken.proofs.added.Statement.{statement}
-use Rattle.spoken.proofs.added.Tie as tie
+use Rattle.spoken.proofs.added as f
 
-pub added-spec : {M : Type 1} → statement M
+pub added-spec : {M : Type 1} → f.Statement.statement M
 added-spec =
-    tie.close
-    (tie.spec
-    (λ c. search added-laws)
-    (λ c. search added-laws)
-    (λ c. search added-laws)
-    (λ c κs. search added-laws)
-    (λ c. search added-laws)
-    (λ c. search added-laws)
-    (λ c. search added-laws)
-    (λ c. search added-laws)
-    (λ c. search added-laws))
+    f.Tie.close (f.Tie.spec (λ c. search added-laws) (λ c. search added-laws) (λ c. search added-laws) (λ c κs. search added-laws)
+    (λ c. search added-laws) (λ c. search added-laws) (λ c. search added-laws) (λ c. search added-laws) (λ c. search added-laws))

@@ -1,6 +1,6 @@
 use Rattle.spoken.proofs.Bytes.{begin-laws}
-use Rattle.spoken.proofs.begins_alike.Statement.{statement}
-use Rattle.spoken.proofs.begins_alike.Tie as tie
+use Rattle.spoken.proofs.begins_alike as f
 
-pub begins-alike-spec : {M : Type 1} → statement M
-begins-alike-spec = tie.close (tie.spec (λ c κs. search begin-laws) (λ c. search begin-laws) (λ c. search begin-laws) (λ c. search begin-laws))
+pub begins-alike-spec : {M : Type 1} → f.Statement.statement M
+begins-alike-spec =
+    f.Tie.close (f.Tie.spec (λ c κs. search begin-laws) (λ c. search begin-laws) (λ c. search begin-laws) (λ c. search begin-laws))

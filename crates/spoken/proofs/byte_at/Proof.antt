@@ -1,6 +1,5 @@
 use Rattle.spoken.proofs.Bytes.{byte-laws}
-use Rattle.spoken.proofs.byte_at.Statement.{statement}
-use Rattle.spoken.proofs.byte_at.Tie as tie
+use Rattle.spoken.proofs.byte_at as f
 
-pub byte-at-spec : {M : Type 1} → statement M
-byte-at-spec = tie.close (tie.spec (λ c. search byte-laws) (λ c. search byte-laws) (λ c. search byte-laws))
+pub byte-at-spec : {M : Type 1} → f.Statement.statement M
+byte-at-spec = f.Tie.close (f.Tie.spec (λ c. search byte-laws) (λ c. search byte-laws) (λ c. search byte-laws))

@@ -1,18 +1,8 @@
 use Rattle.spoken.proofs.Bytes.{said-laws}
-use Rattle.spoken.proofs.is_said.Statement.{statement}
-use Rattle.spoken.proofs.is_said.Tie as tie
+use Rattle.spoken.proofs.is_said as f
 
-pub is-said-spec : {M : Type 1} → statement M
+pub is-said-spec : {M : Type 1} → f.Statement.statement M
 is-said-spec =
-    tie.close
-    (tie.spec
-    (λ c κs. search said-laws)
-    (λ c. search said-laws)
-    (λ c. search said-laws)
-    (λ c. search said-laws)
-    (λ c. search said-laws)
-    (λ c κs. search said-laws)
-    (λ c. search said-laws)
-    (λ c. search said-laws)
-    (λ c. search said-laws)
+    f.Tie.close (f.Tie.spec (λ c κs. search said-laws) (λ c. search said-laws) (λ c. search said-laws) (λ c. search said-laws)
+    (λ c. search said-laws) (λ c κs. search said-laws) (λ c. search said-laws) (λ c. search said-laws) (λ c. search said-laws)
     (λ c. search said-laws))

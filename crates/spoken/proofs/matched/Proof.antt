@@ -1,19 +1,8 @@
 use Rattle.spoken.proofs.Mnemonics.{matched-laws}
-use Rattle.spoken.proofs.matched.Statement.{statement}
-use Rattle.spoken.proofs.matched.Tie as tie
+use Rattle.spoken.proofs.matched as f
 
-pub matched-spec : {M : Type 1} → statement M
+pub matched-spec : {M : Type 1} → f.Statement.statement M
 matched-spec =
-    tie.close
-    (tie.spec
-    (λ c κs. search matched-laws)
-    (λ c. search matched-laws)
-    (λ c. search matched-laws)
-    (λ c. search matched-laws)
-    (λ c. search matched-laws)
-    (λ c. search matched-laws)
-    (λ c. search matched-laws)
-    (λ c κs. search matched-laws)
-    (λ c. search matched-laws)
-    (λ c. search matched-laws)
-    (λ c. search matched-laws))
+    f.Tie.close (f.Tie.spec (λ c κs. search matched-laws) (λ c. search matched-laws) (λ c. search matched-laws)
+    (λ c. search matched-laws) (λ c. search matched-laws) (λ c. search matched-laws) (λ c. search matched-laws)
+    (λ c κs. search matched-laws) (λ c. search matched-laws) (λ c. search matched-laws) (λ c. search matched-laws))

@@ -1,20 +1,8 @@
 use Rattle.spoken.proofs.Nodes.{node-laws}
-use Rattle.spoken.proofs.node_spelled.Statement.{statement}
-use Rattle.spoken.proofs.node_spelled.Tie as tie
+use Rattle.spoken.proofs.node_spelled as f
 
-pub node-spelled-spec : {M : Type 1} → statement M
+pub node-spelled-spec : {M : Type 1} → f.Statement.statement M
 node-spelled-spec =
-    tie.close
-    (tie.spec
-    (λ c κs. search node-laws)
-    (λ c. search node-laws)
-    (λ c κs. search node-laws)
-    (λ c. search node-laws)
-    (λ c κs. search node-laws)
-    (λ c. search node-laws)
-    (λ c. search node-laws)
-    (λ c κs. search node-laws)
-    (λ c κs. search node-laws)
-    (λ c. search node-laws)
-    (λ c κs. search node-laws)
-    (λ c. search node-laws))
+    f.Tie.close (f.Tie.spec (λ c κs. search node-laws) (λ c. search node-laws) (λ c κs. search node-laws) (λ c. search node-laws)
+    (λ c κs. search node-laws) (λ c. search node-laws) (λ c. search node-laws) (λ c κs. search node-laws)
+    (λ c κs. search node-laws) (λ c. search node-laws) (λ c κs. search node-laws) (λ c. search node-laws))

@@ -1,30 +1,16 @@
 use Prim.Native.Nat.{_-_}
 use Rattle.spoken.proofs.Nodes.{Passed, block-laws}
-use Rattle.spoken.proofs.spelled_in.Statement.{statement}
-use Rattle.spoken.proofs.spelled_in.Tie as tie
+use Rattle.spoken.proofs.spelled_in as f
 
-abbrev Inv-loop : tie.InvT-loop
+abbrev Inv-loop : f.Tie.InvT-loop
 Inv-loop nodes names s from to at first end k₀ k = Passed nodes names s at from k
 
-abbrev μ-loop : tie.MeasureT-loop
+abbrev μ-loop : f.Tie.MeasureT-loop
 μ-loop nodes names s from to at first end k₀ k = end - k
 
-pub spelled-in-spec : {M : Type 1} → statement M
+pub spelled-in-spec : {M : Type 1} → f.Statement.statement M
 spelled-in-spec =
-    tie.close
-    (tie.spec
-    Inv-loop
-    μ-loop
-    (λ c κs. search block-laws)
-    (λ c κs. search block-laws)
-    (λ c. search block-laws)
-    (λ c. search block-laws)
-    (λ c. search block-laws)
-    (λ c κs. search block-laws)
-    (λ c. search block-laws)
-    (λ c. search block-laws)
-    (λ c. search block-laws)
-    (λ c κs. search block-laws)
-    (λ c. search block-laws)
-    (λ c. search block-laws)
-    (λ c. search block-laws))
+    f.Tie.close (f.Tie.spec Inv-loop μ-loop (λ c κs. search block-laws) (λ c κs. search block-laws) (λ c. search block-laws)
+    (λ c. search block-laws) (λ c. search block-laws) (λ c κs. search block-laws) (λ c. search block-laws)
+    (λ c. search block-laws) (λ c. search block-laws) (λ c κs. search block-laws) (λ c. search block-laws)
+    (λ c. search block-laws) (λ c. search block-laws))

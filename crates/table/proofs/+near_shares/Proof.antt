@@ -1,4 +1,4 @@
-use Rattle.table.proofs.Shared.{down-laws, near-laws}
+use Rattle.table.proofs.{Shared.down-laws, Shared.near-laws, +near_shares.statement, +near_shares.Tie.close}
 use Prim.Native.Nat.{ℕ, _-_, _<_}
 use lib.ListN.{length}
 use borrow.Fn.Kinds.{In}
@@ -9,8 +9,6 @@ use Rattle.table.proofs.+near_shares.Lts-near_shares as near-shares-lts
 use Rattle.branch.proofs.children.Reads as children-reads
 use Rattle.table.proofs.blocks_share.Reads as blocks-share-reads
 use Rattle.table.proofs.default_branch.Reads as default-branch-reads
-use Rattle.table.proofs.+near_shares.{statement}
-use Rattle.table.proofs.+near_shares.Tie.{close}
 
 abbrev μ-near-shares : Measures 2 near-shares-kinds.ps ℕ
 μ-near-shares κs a = length (a .0 .now) - a .1 .1 .1 .1 .0

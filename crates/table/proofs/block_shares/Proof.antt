@@ -1,32 +1,16 @@
 use Prim.Native.Nat.{_-_}
 use Rattle.table.proofs.Shared.{Apart, block-laws}
-use Rattle.table.proofs.block_shares.Statement.{statement}
-use Rattle.table.proofs.block_shares.Tie as tie
+use Rattle.table.proofs.block_shares as f
 
-abbrev Inv-loop : tie.InvT-loop
+abbrev Inv-loop : f.Tie.InvT-loop
 Inv-loop nodes names name first end initial k₀ k = Apart nodes names name first k
 
-abbrev μ-loop : tie.MeasureT-loop
+abbrev μ-loop : f.Tie.MeasureT-loop
 μ-loop nodes names name first end initial k₀ k = end - k
 
-pub block-shares-spec : {M : Type 1} → statement M
+pub block-shares-spec : {M : Type 1} → f.Statement.statement M
 block-shares-spec =
-    tie.close
-    (tie.spec
-    Inv-loop
-    μ-loop
-    (λ c. search block-laws)
-    (λ c. search block-laws)
-    (λ c. search block-laws)
-    (λ c. search block-laws)
-    (λ c κs. search block-laws)
-    (λ c κs. search block-laws)
-    (λ c κs. search block-laws)
-    (λ c. search block-laws)
-    (λ c κs. search block-laws)
-    (λ c. search block-laws)
-    (λ c. search block-laws)
-    (λ c κs. search block-laws)
-    (λ c. search block-laws)
-    (λ c. search block-laws)
-    (λ c. search block-laws))
+    f.Tie.close (f.Tie.spec Inv-loop μ-loop (λ c. search block-laws) (λ c. search block-laws) (λ c. search block-laws)
+    (λ c. search block-laws) (λ c κs. search block-laws) (λ c κs. search block-laws) (λ c κs. search block-laws)
+    (λ c. search block-laws) (λ c κs. search block-laws) (λ c. search block-laws) (λ c. search block-laws)
+    (λ c κs. search block-laws) (λ c. search block-laws) (λ c. search block-laws) (λ c. search block-laws))

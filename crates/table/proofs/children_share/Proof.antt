@@ -1,27 +1,15 @@
 use Prim.Native.Nat.{_-_}
 use Rattle.table.proofs.Shared.{Sisters, sisters-laws}
-use Rattle.table.proofs.children_share.Statement.{statement}
-use Rattle.table.proofs.children_share.Tie as tie
+use Rattle.table.proofs.children_share as f
 
-abbrev Inv-loop : tie.InvT-loop
+abbrev Inv-loop : f.Tie.InvT-loop
 Inv-loop nodes names first end k₀ k = Sisters nodes names first end k
 
-abbrev μ-loop : tie.MeasureT-loop
+abbrev μ-loop : f.Tie.MeasureT-loop
 μ-loop nodes names first end k₀ k = end - k
 
-pub children-share-spec : {M : Type 1} → statement M
+pub children-share-spec : {M : Type 1} → f.Statement.statement M
 children-share-spec =
-    tie.close
-    (tie.spec
-    Inv-loop
-    μ-loop
-    (λ c. search sisters-laws)
-    (λ c κs. search sisters-laws)
-    (λ c. search sisters-laws)
-    (λ c. search sisters-laws)
-    (λ c κs. search sisters-laws)
-    (λ c κs. search sisters-laws)
-    (λ c. search sisters-laws)
-    (λ c. search sisters-laws)
-    (λ c. search sisters-laws)
-    (λ c. search sisters-laws))
+    f.Tie.close (f.Tie.spec Inv-loop μ-loop (λ c. search sisters-laws) (λ c κs. search sisters-laws) (λ c. search sisters-laws)
+    (λ c. search sisters-laws) (λ c κs. search sisters-laws) (λ c κs. search sisters-laws) (λ c. search sisters-laws)
+    (λ c. search sisters-laws) (λ c. search sisters-laws) (λ c. search sisters-laws))

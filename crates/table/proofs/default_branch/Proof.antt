@@ -1,17 +1,8 @@
 use Rattle.table.proofs.Defaults.{inner-laws}
-use Rattle.table.proofs.default_branch.Statement.{statement}
-use Rattle.table.proofs.default_branch.Tie as tie
+use Rattle.table.proofs.default_branch as f
 
-pub default-branch-spec : {M : Type 1} → statement M
+pub default-branch-spec : {M : Type 1} → f.Statement.statement M
 default-branch-spec =
-    tie.close
-    (tie.spec
-    (λ c κs. search inner-laws)
-    (λ c. search inner-laws)
-    (λ c. search inner-laws)
-    (λ c. search inner-laws)
-    (λ c. search inner-laws)
-    (λ c κs. search inner-laws)
-    (λ c. search inner-laws)
-    (λ c. search inner-laws)
+    f.Tie.close (f.Tie.spec (λ c κs. search inner-laws) (λ c. search inner-laws) (λ c. search inner-laws) (λ c. search inner-laws)
+    (λ c. search inner-laws) (λ c κs. search inner-laws) (λ c. search inner-laws) (λ c. search inner-laws)
     (λ c. search inner-laws))

@@ -1,15 +1,5 @@
 use Rattle.tokenizer.proofs.Steps.{separators}
-use Rattle.tokenizer.proofs.colon.Statement.{statement}
-use Rattle.tokenizer.proofs.colon.Tie as tie
+use Rattle.tokenizer.proofs.colon as f
 
-colon-requires : tie.Need-colon-requires
-colon-requires c κs = search separators
-
-passed-requires : tie.Need-passed-requires
-passed-requires c κs = search separators
-
-returns : tie.Need-returns
-returns c = search separators
-
-pub colon-spec : {M : Type 1} → statement M
-colon-spec = tie.close (tie.spec colon-requires passed-requires returns)
+pub colon-spec : {M : Type 1} → f.Statement.statement M
+colon-spec = f.Tie.close (f.Tie.spec (λ c κs. search separators) (λ c κs. search separators) (λ c. search separators))

@@ -1,9 +1,5 @@
 use Rattle.tokenizer.proofs.Steps.{parts}
-use Rattle.tokenizer.proofs.ended.Statement.{statement}
-use Rattle.tokenizer.proofs.ended.Tie as tie
+use Rattle.tokenizer.proofs.ended as f
 
-returns : tie.Need-returns
-returns c = search parts
-
-pub ended-spec : {M : Type 1} → statement M
-ended-spec = tie.close (tie.spec returns)
+pub ended-spec : {M : Type 1} → f.Statement.statement M
+ended-spec = f.Tie.close (f.Tie.spec (λ c. search parts))

@@ -1,15 +1,5 @@
 use Rattle.tokenizer.proofs.Steps.{arms}
-use Rattle.tokenizer.proofs.expression.Statement.{statement}
-use Rattle.tokenizer.proofs.expression.Tie as tie
+use Rattle.tokenizer.proofs.expression as f
 
-read-expression-data-requires : tie.Need-read-expression-data-requires
-read-expression-data-requires c κs = search arms
-
-form-requires : tie.Need-form-requires
-form-requires c κs = search arms
-
-returns : tie.Need-returns
-returns c = search arms
-
-pub expression-spec : {M : Type 1} → statement M
-expression-spec = tie.close (tie.spec read-expression-data-requires form-requires returns)
+pub expression-spec : {M : Type 1} → f.Statement.statement M
+expression-spec = f.Tie.close (f.Tie.spec (λ c κs. search arms) (λ c κs. search arms) (λ c. search arms))

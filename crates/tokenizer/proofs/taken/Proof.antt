@@ -1,9 +1,5 @@
 use Rattle.tokenizer.proofs.Steps.{parts}
-use Rattle.tokenizer.proofs.taken.Statement.{statement}
-use Rattle.tokenizer.proofs.taken.Tie as tie
+use Rattle.tokenizer.proofs.taken as f
 
-returns : tie.Need-returns
-returns c = search parts
-
-pub taken-spec : {M : Type 1} → statement M
-taken-spec = tie.close (tie.spec returns)
+pub taken-spec : {M : Type 1} → f.Statement.statement M
+taken-spec = f.Tie.close (f.Tie.spec (λ c. search parts))

@@ -1,6 +1,7 @@
 use Rattle.tree.proofs.Entries.{stop-laws}
-use Rattle.tree.proofs.alone.Statement.{statement}
-use Rattle.tree.proofs.alone.Tie as tie
+use Rattle.tree.proofs.alone as f
 
-pub alone-spec : {M : Type 1} → statement M
-alone-spec = tie.close (tie.spec (λ c. search stop-laws) (λ c. search stop-laws) (λ c. search stop-laws) (λ c. search stop-laws) (λ c. search stop-laws) (λ c. search stop-laws))
+pub alone-spec : {M : Type 1} → f.Statement.statement M
+alone-spec =
+    f.Tie.close (f.Tie.spec (λ c. search stop-laws) (λ c. search stop-laws) (λ c. search stop-laws) (λ c. search stop-laws)
+    (λ c. search stop-laws) (λ c. search stop-laws))

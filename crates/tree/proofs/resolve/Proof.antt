@@ -1,8 +1,7 @@
 use Rattle.tree.proofs.Entries.{alone-laws}
-use Rattle.tree.proofs.resolve.Statement.{statement}
-use Rattle.tree.proofs.resolve.Tie as tie
+use Rattle.tree.proofs.resolve as f
 
-pub resolve-spec : {M : Type 1} → statement M
+pub resolve-spec : {M : Type 1} → f.Statement.statement M
 resolve-spec =
-    tie.close
-    (tie.spec (λ c κs. search alone-laws) (λ c. search alone-laws) (λ c. search alone-laws) (λ c κs. search alone-laws) (λ c. search alone-laws) (λ c. search alone-laws))
+    f.Tie.close (f.Tie.spec (λ c κs. search alone-laws) (λ c. search alone-laws) (λ c. search alone-laws)
+    (λ c κs. search alone-laws) (λ c. search alone-laws) (λ c. search alone-laws))

@@ -1,17 +1,8 @@
 use Rattle.tree.proofs.Entries.{accepted-laws}
-use Rattle.tree.proofs.resolve_accepted.Statement.{statement}
-use Rattle.tree.proofs.resolve_accepted.Tie as tie
+use Rattle.tree.proofs.resolve_accepted as f
 
-pub resolve-accepted-spec : {M : Type 1} → statement M
+pub resolve-accepted-spec : {M : Type 1} → f.Statement.statement M
 resolve-accepted-spec =
-    tie.close
-    (tie.spec
-    (λ c κs. search accepted-laws)
-    (λ c. search accepted-laws)
-    (λ c. search accepted-laws)
-    (λ c κs. search accepted-laws)
-    (λ c. search accepted-laws)
-    (λ c. search accepted-laws)
-    (λ c κs. search accepted-laws)
-    (λ c. search accepted-laws)
-    (λ c. search accepted-laws))
+    f.Tie.close (f.Tie.spec (λ c κs. search accepted-laws) (λ c. search accepted-laws) (λ c. search accepted-laws)
+    (λ c κs. search accepted-laws) (λ c. search accepted-laws) (λ c. search accepted-laws) (λ c κs. search accepted-laws)
+    (λ c. search accepted-laws) (λ c. search accepted-laws))

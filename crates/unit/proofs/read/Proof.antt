@@ -1,17 +1,7 @@
 use Rattle.unit.proofs.Units.{unit-laws}
-use Rattle.unit.proofs.read.Statement.{statement}
-use Rattle.unit.proofs.read.Tie as tie
+use Rattle.unit.proofs.read as f
 
-pub read-spec : {M : Type 1} → statement M
+pub read-spec : {M : Type 1} → f.Statement.statement M
 read-spec =
-    tie.close
-    (tie.spec
-    (λ c κs. search unit-laws)
-    (λ c. search unit-laws)
-    (λ c. search unit-laws)
-    (λ c κs. search unit-laws)
-    (λ c. search unit-laws)
-    (λ c. search unit-laws)
-    (λ c. search unit-laws)
-    (λ c. search unit-laws)
-    (λ c. search unit-laws))
+    f.Tie.close (f.Tie.spec (λ c κs. search unit-laws) (λ c. search unit-laws) (λ c. search unit-laws) (λ c κs. search unit-laws)
+    (λ c. search unit-laws) (λ c. search unit-laws) (λ c. search unit-laws) (λ c. search unit-laws) (λ c. search unit-laws))

@@ -1,9 +1,5 @@
 use Rattle.unsigned_coordinate.proofs.Unsigned.{sizes}
-use Rattle.unsigned_coordinate.proofs.is_negative.Statement.{statement}
-use Rattle.unsigned_coordinate.proofs.is_negative.Tie as tie
+use Rattle.unsigned_coordinate.proofs.is_negative as f
 
-returns : tie.Need-returns
-returns c = search sizes
-
-pub is-negative-spec : {M : Type 1} → statement M
-is-negative-spec = tie.close (tie.spec returns)
+pub is-negative-spec : {M : Type 1} → f.Statement.statement M
+is-negative-spec = f.Tie.close (f.Tie.spec (λ c. search sizes))

@@ -1,12 +1,5 @@
 use Rattle.unsigned_coordinate.proofs.Unsigned.{sizes}
-use Rattle.unsigned_coordinate.proofs.without_sign.Statement.{statement}
-use Rattle.unsigned_coordinate.proofs.without_sign.Tie as tie
+use Rattle.unsigned_coordinate.proofs.without_sign as f
 
-cast-result : tie.Need-cast-result
-cast-result c = search sizes
-
-returns : tie.Need-returns
-returns c = search sizes
-
-pub without-sign-spec : {M : Type 1} → statement M
-without-sign-spec = tie.close (tie.spec cast-result returns)
+pub without-sign-spec : {M : Type 1} → f.Statement.statement M
+without-sign-spec = f.Tie.close (f.Tie.spec (λ c. search sizes) (λ c. search sizes))

@@ -1,6 +1,5 @@
 use Rattle.util.proofs.Runs.{least-laws}
-use Rattle.util.proofs.least.Statement.{statement}
-use Rattle.util.proofs.least.Tie as tie
+use Rattle.util.proofs.least as f
 
-pub least-spec : {M : Type 1} → statement M
-least-spec = tie.close (tie.spec (λ c. search least-laws) (λ c. search least-laws))
+pub least-spec : {M : Type 1} → f.Statement.statement M
+least-spec = f.Tie.close (f.Tie.spec (λ c. search least-laws) (λ c. search least-laws))

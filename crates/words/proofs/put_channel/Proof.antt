@@ -1,18 +1,7 @@
 use Rattle.words.proofs.Steps.{channel-laws}
-use Rattle.words.proofs.put_channel.Statement.{statement}
-use Rattle.words.proofs.put_channel.Tie as tie
+use Rattle.words.proofs.put_channel as f
 
-channel-said-requires : tie.Need-channel-said-requires
-channel-said-requires c κs = search channel-laws
-
-put-requires : tie.Need-put-requires
-put-requires c κs = search channel-laws
-
-same-length : tie.Need-same-length
-same-length c = search channel-laws
-
-returns : tie.Need-returns
-returns c = search channel-laws
-
-pub put-channel-spec : {M : Type 1} → statement M
-put-channel-spec = tie.close (tie.spec channel-said-requires put-requires same-length returns)
+pub put-channel-spec : {M : Type 1} → f.Statement.statement M
+put-channel-spec =
+    f.Tie.close (f.Tie.spec (λ c κs. search channel-laws) (λ c κs. search channel-laws) (λ c. search channel-laws)
+    (λ c. search channel-laws))

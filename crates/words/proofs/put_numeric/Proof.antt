@@ -1,18 +1,7 @@
 use Rattle.words.proofs.Steps.{numeric-laws}
-use Rattle.words.proofs.put_numeric.Statement.{statement}
-use Rattle.words.proofs.put_numeric.Tie as tie
+use Rattle.words.proofs.put_numeric as f
 
-numeric-said-requires : tie.Need-numeric-said-requires
-numeric-said-requires c κs = search numeric-laws
-
-put-requires : tie.Need-put-requires
-put-requires c κs = search numeric-laws
-
-same-length : tie.Need-same-length
-same-length c = search numeric-laws
-
-returns : tie.Need-returns
-returns c = search numeric-laws
-
-pub put-numeric-spec : {M : Type 1} → statement M
-put-numeric-spec = tie.close (tie.spec numeric-said-requires put-requires same-length returns)
+pub put-numeric-spec : {M : Type 1} → f.Statement.statement M
+put-numeric-spec =
+    f.Tie.close (f.Tie.spec (λ c κs. search numeric-laws) (λ c κs. search numeric-laws) (λ c. search numeric-laws)
+    (λ c. search numeric-laws))

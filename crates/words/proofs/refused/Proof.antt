@@ -1,12 +1,5 @@
 use Rattle.words.proofs.Words.{said-laws}
-use Rattle.words.proofs.refused.Statement.{statement}
-use Rattle.words.proofs.refused.Tie as tie
+use Rattle.words.proofs.refused as f
 
-get-code-requires : tie.Need-get-code-requires
-get-code-requires c κs = search said-laws
-
-returns : tie.Need-returns
-returns c = search said-laws
-
-pub refused-spec : {M : Type 1} → statement M
-refused-spec = tie.close (tie.spec get-code-requires returns)
+pub refused-spec : {M : Type 1} → f.Statement.statement M
+refused-spec = f.Tie.close (f.Tie.spec (λ c κs. search said-laws) (λ c. search said-laws))

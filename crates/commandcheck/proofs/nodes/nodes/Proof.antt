@@ -1,9 +1,5 @@
 use borrow.Author.Needs.{needs}
-use Rattle.commandcheck.proofs.nodes.nodes.Statement.{statement}
-use Rattle.commandcheck.proofs.nodes.nodes.Tie as tie
+use Rattle.commandcheck.proofs.nodes.nodes as f
 
-returns : tie.Need-returns
-returns c = search needs
-
-pub nodes-spec : {M : Type 1} → statement M
-nodes-spec = tie.close (tie.spec returns)
+pub nodes-spec : {M : Type 1} → f.Statement.statement M
+nodes-spec = f.Tie.close (f.Tie.spec (λ c. search needs))

@@ -1,32 +1,7 @@
 use Rattle.report.proofs.Lines.{whole, lines}
-use Rattle.report.proofs.units.end_line.Statement.{statement}
-use Rattle.report.proofs.units.end_line.Tie as tie
+use Rattle.report.proofs.units.end_line as f
 
-slice-aggregate-add : tie.Need-slice-aggregate-add
-slice-aggregate-add c = search lines
-
-add-requires : tie.Need-add-requires
-add-requires c κs = search lines
-
-add-number-requires : tie.Need-add-number-requires
-add-number-requires c κs = search lines
-
-slice-aggregate-add-2 : tie.Need-slice-aggregate-add-2
-slice-aggregate-add-2 c = search lines
-
-add-requires-2 : tie.Need-add-requires-2
-add-requires-2 c κs = search lines
-
-returns : tie.Need-returns
-returns c = whole _ _ _ _ (search lines)
-
-pub end-line-spec : {M : Type 1} → statement M
+pub end-line-spec : {M : Type 1} → f.Statement.statement M
 end-line-spec =
-    tie.close
-    (tie.spec
-    slice-aggregate-add
-    add-requires
-    add-number-requires
-    slice-aggregate-add-2
-    add-requires-2
-    returns)
+    f.Tie.close (f.Tie.spec (λ c. search lines) (λ c κs. search lines) (λ c κs. search lines) (λ c. search lines)
+    (λ c κs. search lines) (λ c. whole _ _ _ _ (search lines)))

@@ -1,0 +1,356 @@
+-- Decimal numbers: what is accepted has the form.
+use Prim.Native.Nat.{ℕ, _+_, _-_, _≤_, _<_}
+use mathlib.Core.Path.{_≡_, refl, sym, ap, _∙_}
+use mathlib.Core.List.{List, [], _∷_, _++_}
+use mathlib.Core.Bool.{Bool, true, false, cond, _||_, true≢false, false≢true, and-true}
+use mathlib.Core.Logic.{_⊎_, inl, inr, ⊎-elim}
+use native.Mathlib.Omega.{arith}
+use lib.Dec.{eqb, leb, ltb}
+use lib.ListN.{length, getD, take, drop, List·getD-eq-default}
+use native.Mathlib.Nat.{add-zero}
+use lib.Seq.{drop-cons, getD-take, getD-drop}
+use borrow.Author.Tests.{eqb-true, lt-ltb, ltb-true, leb-true}
+use Rattle.error.specs.declared.ErrorCode.the-variants.{NumericDataError, InvalidSuffix, SuffixTooLong}
+use Rattle.kind.specs.Class.{isWhiteSpace, isSign, isDigit, isLetter, isCapital, isSmall}
+use Rattle.kind.proofs.Tests.{either, or-left, and-left, and-right, less-or-not}
+use Rattle.util.specs.Run.{runEnd, signEnd, every, standsAt}
+use Rattle.util.proofs.Runs.{run-from}
+use Rattle.token.specs.{Token.viewIn, View.viewOf, View.partOf, declared.View.View, declared.Token.Token}
+use Rattle.token.specs.declared.Token.the-variants.{HeaderMnemonicSeparator, HeaderQuerySuffix, ProgramMessageUnitSeparator, ProgramHeaderSeparator, ProgramDataSeparator, ProgramMnemonic, CharacterProgramData, DecimalNumericProgramData, DecimalNumericSuffixProgramData, NonDecimalNumericProgramData, StringProgramData, ArbitraryBlockData, ExpressionProgramData}
+use Rattle.item.specs.Follow.{token, followed}
+use Rattle.forms.specs.ItemForm.{Ended}
+use Rattle.forms.proofs.ItemAccepted.{nextIn, tokenIn, only-then, only-token, only-followed, ended, part, part-shown, part-joined, part-run, part-length, run-inside, run-most}
+use Rattle.forms.proofs.{ItemProgress.run-moves, DecimalProgress.sign-from, DecimalProgress.whole-from}
+use Rattle.decimal.specs.Decimal.{wholeEnd, hasWhole, fractionEnd, hasFraction, mantissa, beginsExponent, exponent, withExponent, number, numberTo, nrf, inSuffix, beginsSuffix, suffixed, suffixData, numericTo, numericData}
+use Rattle.forms.specs.DecimalForm.{Whole, Fraction, Exponent, Number, Suffix}
+use Rattle.decimal.specs.declared.Place.{Place}
+use Rattle.decimal.specs.declared.Place.the-variants.{At, Nowhere}
+use Rattle.decimal.proofs.Decimals.{fraction-from}
+
+-- the suffix of a number
+abbrev suffixIn : Token → View
+suffixIn (DecimalNumericSuffixProgramData v u) = u
+suffixIn (ProgramMnemonic v) = v
+suffixIn (CharacterProgramData v) = v
+suffixIn (DecimalNumericProgramData v) = v
+suffixIn (StringProgramData v) = v
+suffixIn (ArbitraryBlockData v) = v
+suffixIn (ExpressionProgramData v) = v
+suffixIn (NonDecimalNumericProgramData n) = viewOf 0 0
+suffixIn HeaderMnemonicSeparator = viewOf 0 0
+suffixIn HeaderQuerySuffix = viewOf 0 0
+suffixIn ProgramMessageUnitSeparator = viewOf 0 0
+suffixIn ProgramHeaderSeparator = viewOf 0 0
+suffixIn ProgramDataSeparator = viewOf 0 0
+
+-- a number with a suffix
+abbrev hasSuffix : Token → Bool
+hasSuffix (DecimalNumericSuffixProgramData v u) = true
+hasSuffix (ProgramMnemonic v) = false
+hasSuffix (CharacterProgramData v) = false
+hasSuffix (DecimalNumericProgramData v) = false
+hasSuffix (StringProgramData v) = false
+hasSuffix (ArbitraryBlockData v) = false
+hasSuffix (ExpressionProgramData v) = false
+hasSuffix (NonDecimalNumericProgramData n) = false
+hasSuffix HeaderMnemonicSeparator = false
+hasSuffix HeaderQuerySuffix = false
+hasSuffix ProgramMessageUnitSeparator = false
+hasSuffix ProgramHeaderSeparator = false
+hasSuffix ProgramDataSeparator = false
+
+abbrev isAt : Place → Bool
+isAt (At i) = true
+isAt Nowhere = false
+
+abbrev placeOf : Place → ℕ
+placeOf (At i) = i
+placeOf Nowhere = 0
+
+-- a place where a byte of a class stands that 0 is not of is inside the text
+inside : (p : ℕ → Bool) → p 0 ≡ false → (s : List ℕ) (i : ℕ) → p (getD s i 0) ≡ true → i < length s
+inside p z s i h =
+    ⊎-elim (λ k. k)
+    (λ k. let e : getD s i 0 ≡ 0 = List·getD-eq-default s 0 k in absurd (true≢false (sym h ∙ ap p e ∙ z)))
+    (less-or-not i (length s))
+
+module _ (s : List ℕ) (i : ℕ) where
+  part-none : part s i i ≡ []
+  part-none = let e : i - i ≡ 0 = omega arith in rw e (none (drop i s))
+    where
+      none : (t : List ℕ) → take 0 t ≡ []
+      none [] = refl
+      none (b ∷ t) = refl
+
+  part-one : i < length s → part s i (i + 1) ≡ getD s i 0 ∷ []
+  part-one h = let e : i + 1 - i ≡ 1 = omega arith in rw (e, drop-cons s i 0 h)
+
+  sign-most : i ≤ length s → signEnd s i ≤ length s
+  unfolding signEnd isSign
+  sign-most h = go (isSign (getD s i 0)) refl
+    where
+      go : (c : Bool) → isSign (getD s i 0) ≡ c → cond c (i + 1) i ≤ length s
+      go true e = omega (arith, inside isSign refl s i e)
+      go false e = h
+
+  sign-part : (every isSign (part s i (signEnd s i)) ≡ true) × (length (part s i (signEnd s i)) ≤ 1)
+  unfolding signEnd isSign every
+  sign-part = go (isSign (getD s i 0)) refl
+    where
+      go : (c : Bool) → isSign (getD s i 0) ≡ c → (every isSign (part s i (cond c (i + 1) i)) ≡ true) × (length (part s i (cond c (i + 1) i)) ≤ 1)
+      go true e =
+          let f : part s i (i + 1) ≡ getD s i 0 ∷ [] = part-one (inside isSign refl s i e) in
+          (ap (every isSign) f ∙ and-true (isSign (getD s i 0)) ∙ e, omega (arith, ap length f))
+      go false e = (ap (every isSign) part-none, omega (arith, ap length part-none))
+
+  pub whole-form : Whole (part s i (wholeEnd s i))
+  unfolding wholeEnd
+  whole-form =
+      record {
+        sign = part s i (signEnd s i);
+        digits = part s (signEnd s i) (runEnd isDigit s (signEnd s i));
+        parts = part-joined s i (signEnd s i) (runEnd isDigit s (signEnd s i)) (sign-from s i) (run-from isDigit s (signEnd s i));
+        one-sign = sign-part .1;
+        all-sign = sign-part .0;
+        all-digit = part-run s isDigit (signEnd s i);
+      }
+
+  pub whole-count : length (whole-form .digits) ≡ wholeEnd s i - signEnd s i
+  unfolding whole-form wholeEnd
+  whole-count = part-length s isDigit (signEnd s i)
+
+  whole-most : i ≤ length s → wholeEnd s i ≤ length s
+  unfolding wholeEnd
+  whole-most h = run-most s isDigit (signEnd s i) (sign-most h)
+
+  -- with a digit it lies inside the text
+  whole-inside : hasWhole s i ≡ true → wholeEnd s i ≤ length s
+  unfolding hasWhole wholeEnd
+  whole-inside h =
+      let k : signEnd s i < length s = run-inside s isDigit (signEnd s i) (ltb-true (signEnd s i) (runEnd isDigit s (signEnd s i)) h) in
+      run-most s isDigit (signEnd s i) (omega (arith, k))
+
+  whole-digits : hasWhole s i ≡ true → 0 < length (whole-form .digits)
+  unfolding hasWhole
+  whole-digits h = omega (arith, whole-count, ltb-true (signEnd s i) (wholeEnd s i) h)
+
+-- a fraction, and how many digits it has
+record Back (s : List ℕ) (i : ℕ) : Type 0 where
+  pub form : Fraction (part s i (fractionEnd s i))
+  pub count : length (form .digits) ≡ fractionEnd s i - i - 1
+
+module _ (s : List ℕ) (i : ℕ) where
+  dot-inside : standsAt 46 s i ≡ true → i < length s
+  unfolding standsAt
+  dot-inside h = ltb-true i (length s) (and-left (ltb i (length s)) (eqb (getD s i 0) 46) h)
+
+  dot-there : standsAt 46 s i ≡ true → getD s i 0 ≡ 46
+  unfolding standsAt
+  dot-there h = eqb-true (getD s i 0) 46 (and-right (ltb i (length s)) (eqb (getD s i 0) 46) h)
+
+  pointed : standsAt 46 s i ≡ true → part s i (runEnd isDigit s (i + 1)) ≡ 46 ∷ part s (i + 1) (runEnd isDigit s (i + 1))
+  pointed h =
+      part-joined s i (i + 1) (runEnd isDigit s (i + 1)) (omega arith) (run-from isDigit s (i + 1))
+      ∙ ap (λ (x : List ℕ). x ++ part s (i + 1) (runEnd isDigit s (i + 1))) (part-one s i (dot-inside h) ∙ ap (λ (b : ℕ). b ∷ []) (dot-there h))
+
+  fraction-form : Back s i
+  unfolding fractionEnd every
+  fraction-form = go (standsAt 46 s i) refl
+    where
+      go : (c : Bool) → standsAt 46 s i ≡ c → Back s i
+      go true e =
+          record {
+            form =
+                record {
+                  point = 46 ∷ [];
+                  digits = part s (i + 1) (runEnd isDigit s (i + 1));
+                  parts = rw e (pointed e);
+                  point-or-none = inr refl;
+                  all-digit = part-run s isDigit (i + 1);
+                };
+            count = rw e (part-length s isDigit (i + 1) ∙ omega arith);
+          }
+      go false e =
+          record {
+            form =
+                record {
+                  point = [];
+                  digits = [];
+                  parts = rw e (part-none s i);
+                  point-or-none = inl (refl, refl);
+                  all-digit = refl;
+                };
+            count = rw e (omega arith);
+          }
+
+  -- a digit behind the point makes it end inside the text, and so does a place that is inside
+  fraction-most : i ≤ length s → fractionEnd s i ≤ length s
+  unfolding fractionEnd
+  fraction-most h = go (standsAt 46 s i) refl
+    where
+      go : (c : Bool) → standsAt 46 s i ≡ c → cond c (runEnd isDigit s (i + 1)) i ≤ length s
+      go true e = run-most s isDigit (i + 1) (omega (arith, dot-inside e))
+      go false e = h
+
+  fraction-inside : hasFraction s i ≡ true → i ≤ length s
+  unfolding hasFraction fractionEnd
+  fraction-inside h = go (standsAt 46 s i) refl (ltb-true 1 (fractionEnd s i - i) h)
+    where
+      go : (c : Bool) → standsAt 46 s i ≡ c → 1 < cond c (runEnd isDigit s (i + 1)) i - i → i ≤ length s
+      go true e k = omega (arith, dot-inside e)
+      go false e k = absurd (omega (arith, k))
+
+  fraction-digits : hasFraction s i ≡ true → 0 < length (fraction-form .form .digits)
+  unfolding hasFraction
+  fraction-digits h = omega (arith, fraction-form .count, ltb-true 1 (fractionEnd s i - i) h)
+
+  -- behind a mantissa that ends inside the text
+  exponent-form : (end : ℕ) → i ≤ length s → exponent s i ≡ At end → (i ≤ end) × (end ≤ length s) × ((part s i end ≡ []) ⊎ Exponent (part s i end))
+  unfolding exponent beginsExponent
+  exponent-form end h = go (beginsExponent (getD s i 0)) (hasWhole s (i + 1)) refl refl
+    where
+      go : (c d : Bool) → beginsExponent (getD s i 0) ≡ c → hasWhole s (i + 1) ≡ d
+          → cond c (cond d (At (wholeEnd s (i + 1))) Nowhere) (At i) ≡ At end
+          → (i ≤ end) × (end ≤ length s) × ((part s i end ≡ []) ⊎ Exponent (part s i end))
+      go false d b w e =
+          let m : i ≡ end = ap placeOf e in
+          (omega (arith, m), omega (arith, m, h), inl (ap (λ (k : ℕ). part s i k) (sym m) ∙ part-none s i))
+      go true false b w e = absurd (false≢true (ap isAt e))
+      go true true b w e =
+          let m : wholeEnd s (i + 1) ≡ end = ap placeOf e in
+          let k : i < length s = inside beginsExponent refl s i b in
+          let f : part s i end ≡ getD s i 0 ∷ part s (i + 1) (wholeEnd s (i + 1)) =
+          rw (← m) (part-joined s i (i + 1) (wholeEnd s (i + 1)) (omega arith) (whole-from s (i + 1))
+          ∙ ap (λ (x : List ℕ). x ++ part s (i + 1) (wholeEnd s (i + 1))) (part-one s i k)) in (
+            omega (arith, m, whole-from s (i + 1)),
+            omega (arith, m, whole-most s (i + 1) (omega (arith, k))),
+            inr (record { letter = getD s i 0; power = part s (i + 1) (wholeEnd s (i + 1)); parts = f; is-e = b; whole = whole-form s (i + 1); some-digit = whole-digits s (i + 1) w }),
+          )
+
+slash : (b : ℕ) → eqb b 47 ≡ true → inSuffix b ≡ true
+unfolding inSuffix isLetter isCapital isSmall isDigit
+slash b h = rw (eqb-true b 47 h)
+
+-- a number that was found, inside the text
+record Found (s : List ℕ) (at end : ℕ) : Type 0 where
+  pub forward : at ≤ end
+  pub inside-text : end ≤ length s
+  pub form : Number (part s at end)
+
+module _ (s : List ℕ) (at : ℕ) where
+  found : (end : ℕ) → number s at ≡ At end → Found s at end
+  unfolding number withExponent mantissa
+  found end = go (hasWhole s at) (hasFraction s (wholeEnd s at)) refl refl
+    where
+      with-digit : wholeEnd s at ≤ length s → 0 < length (whole-form s at .digits) + length (fraction-form s (wholeEnd s at) .form .digits)
+          → exponent s (fractionEnd s (wholeEnd s at)) ≡ At end → Found s at end
+      with-digit k some e =
+          let x = exponent-form s (fractionEnd s (wholeEnd s at)) end (fraction-most s (wholeEnd s at) k) e in
+          let l : fractionEnd s (wholeEnd s at) ≤ end = x .0 in
+          let b : wholeEnd s at ≤ fractionEnd s (wholeEnd s at) = fraction-from s (wholeEnd s at) in
+          record {
+            forward = omega (arith, l, b, whole-from s at);
+            inside-text = x .1;
+            form =
+                record {
+                  front = part s at (wholeEnd s at);
+                  back = part s (wholeEnd s at) (fractionEnd s (wholeEnd s at));
+                  power = part s (fractionEnd s (wholeEnd s at)) end;
+                  parts =
+                      part-joined s at (wholeEnd s at) end (whole-from s at) (omega (arith, l, b))
+                      ∙ ap (λ (y : List ℕ). part s at (wholeEnd s at) ++ y) (part-joined s (wholeEnd s at) (fractionEnd s (wholeEnd s at)) end b l);
+                  whole = whole-form s at;
+                  fraction = fraction-form s (wholeEnd s at) .form;
+                  some-digit = some;
+                  exponent = x .2;
+                };
+          }
+
+      go : (c d : Bool) → hasWhole s at ≡ c → hasFraction s (wholeEnd s at) ≡ d
+          → withExponent s (cond (c || d) (At (fractionEnd s (wholeEnd s at))) Nowhere) ≡ At end → Found s at end
+      go true d hc hd e = with-digit (whole-inside s at hc) (omega (arith, whole-digits s at hc)) e
+      go false true hc hd e = with-digit (fraction-inside s (wholeEnd s at) hd) (omega (arith, fraction-digits s (wholeEnd s at) hd)) e
+      go false false hc hd e = absurd (false≢true (ap isAt e))
+
+  shown : (end : ℕ) → number s at ≡ At end → Number (partOf s (viewOf at end))
+  shown end e =
+      let f : Found s at end = found end e in
+      rw (part-shown s at end (f .forward) (f .inside-text)) (f .form)
+
+  pub nrf-form : (t : Token) (next : ℕ) → nrf s at ≡ token t next → (t ≡ DecimalNumericProgramData (viewOf at next)) × Number (partOf s (viewOf at next))
+  unfolding nrf numberTo
+  nrf-form t next = go (number s at) refl
+    where
+      go : (m : Place) → number s at ≡ m → numberTo at m ≡ token t next → (t ≡ DecimalNumericProgramData (viewOf at next)) × Number (partOf s (viewOf at next))
+      go Nowhere e h = absurd (only-token t next NumericDataError h)
+      go (At end) e h =
+          let n : end ≡ next = ap nextIn h in
+          (rw (← n) (sym (ap tokenIn h)), rw (← n) (shown end e))
+
+  -- a letter or `/` is first
+  suffix-first : (j : ℕ) → beginsSuffix s j ≡ true → beginsSuffix (part s j (runEnd inSuffix s j)) 0 ≡ true
+  unfolding beginsSuffix inSuffix
+  suffix-first j h =
+      let b : ℕ = getD s j 0 in
+      let l : j < length s = ltb-true j (length s) (and-left (ltb j (length s)) (eqb b 47 || isLetter b) h) in
+      let f : (eqb b 47 || isLetter b) ≡ true = and-right (ltb j (length s)) (eqb b 47 || isLetter b) h in
+      let m : j < runEnd inSuffix s j = run-moves inSuffix s j l (⊎-elim (λ k. slash b k) (λ k. or-left (isDigit b || (eqb b 45 || (eqb b 47 || eqb b 46))) k) (either (eqb b 47) (isLetter b) f)) in
+      let n : 0 < length (part s j (runEnd inSuffix s j)) = omega (arith, m, part-length s inSuffix j) in
+      let g : getD (part s j (runEnd inSuffix s j)) 0 0 ≡ b = getD-take (runEnd inSuffix s j - j) (drop j s) 0 0 (omega (arith, m)) ∙ getD-drop j s 0 0 ∙ ap (λ (k : ℕ). getD s k 0) (add-zero j) in
+      rw (lt-ltb 0 (length (part s j (runEnd inSuffix s j))) n, g) f
+
+  suffix-shown : (j : ℕ) → beginsSuffix s j ≡ true → leb (runEnd inSuffix s j - j) 12 ≡ true → Suffix (partOf s (viewOf j (runEnd inSuffix s j)))
+  unfolding beginsSuffix
+  suffix-shown j h k =
+      let l : j < length s = ltb-true j (length s) (and-left (ltb j (length s)) _ h) in
+      rw (part-shown s j (runEnd inSuffix s j) (run-from inSuffix s j) (run-most s inSuffix j (omega (arith, l))))
+      (record { first = suffix-first j h; all-suffix = part-run s inSuffix j; at-most = omega (arith, part-length s inSuffix j, leb-true (runEnd inSuffix s j - j) 12 k) })
+
+  pub number-form : (v : View) (next : ℕ) → numericData s at ≡ token (DecimalNumericProgramData v) next → (v .start ≡ at) × Number (partOf s v) × Ended s (v .end) next
+  unfolding numericData numericTo suffixData suffixed
+  number-form v next = go (number s at) refl
+    where
+      after : (end : ℕ) → number s at ≡ At end → (c : Bool)
+          → cond c (suffixed s (viewOf at end) (runEnd isWhiteSpace s end)) (followed (DecimalNumericProgramData (viewOf at end)) InvalidSuffix s end) ≡ token (DecimalNumericProgramData v) next
+          → (v .start ≡ at) × Number (partOf s v) × Ended s (v .end) next
+      after end e true h =
+          let j : ℕ = runEnd isWhiteSpace s end in
+          let t = DecimalNumericSuffixProgramData (viewOf at end) (viewOf j (runEnd inSuffix s j)) in
+          let c = only-then (DecimalNumericProgramData v) next (leb (runEnd inSuffix s j - j) 12) (followed t InvalidSuffix s (runEnd inSuffix s j)) SuffixTooLong h in
+          absurd (true≢false (ap hasSuffix (only-followed (DecimalNumericProgramData v) next t InvalidSuffix s (runEnd inSuffix s j) (c .1))))
+      after end e false h =
+          let q : viewOf at end ≡ v = ap viewIn (only-followed (DecimalNumericProgramData v) next (DecimalNumericProgramData (viewOf at end)) InvalidSuffix s end h) in
+          (rw (← q), rw (← q) (shown end e), rw (← q) (ended (DecimalNumericProgramData v) (DecimalNumericProgramData (viewOf at end)) InvalidSuffix s end next h))
+
+      go : (m : Place) → number s at ≡ m → numericTo s at m ≡ token (DecimalNumericProgramData v) next → (v .start ≡ at) × Number (partOf s v) × Ended s (v .end) next
+      go Nowhere e h = absurd (only-token (DecimalNumericProgramData v) next NumericDataError h)
+      go (At end) e h = after end e (beginsSuffix s (runEnd isWhiteSpace s end)) h
+
+  pub suffix-form : (v u : View) (next : ℕ) → numericData s at ≡ token (DecimalNumericSuffixProgramData v u) next
+      → (v .start ≡ at) × Number (partOf s v) × (u .start ≡ runEnd isWhiteSpace s (v .end)) × Suffix (partOf s u) × Ended s (u .end) next
+  unfolding numericData numericTo suffixData suffixed
+  suffix-form v u next = go (number s at) refl
+    where
+      after : (end : ℕ) → number s at ≡ At end → (c : Bool) → beginsSuffix s (runEnd isWhiteSpace s end) ≡ c
+          → cond c (suffixed s (viewOf at end) (runEnd isWhiteSpace s end)) (followed (DecimalNumericProgramData (viewOf at end)) InvalidSuffix s end) ≡ token (DecimalNumericSuffixProgramData v u) next
+          → (v .start ≡ at) × Number (partOf s v) × (u .start ≡ runEnd isWhiteSpace s (v .end)) × Suffix (partOf s u) × Ended s (u .end) next
+      after end e true b h =
+          let j : ℕ = runEnd isWhiteSpace s end in
+          let t = DecimalNumericSuffixProgramData (viewOf at end) (viewOf j (runEnd inSuffix s j)) in
+          let c = only-then (DecimalNumericSuffixProgramData v u) next (leb (runEnd inSuffix s j - j) 12) (followed t InvalidSuffix s (runEnd inSuffix s j)) SuffixTooLong h in
+          let q : t ≡ DecimalNumericSuffixProgramData v u = only-followed (DecimalNumericSuffixProgramData v u) next t InvalidSuffix s (runEnd inSuffix s j) (c .1) in
+          let x : viewOf at end ≡ v = ap viewIn q in
+          let y : viewOf j (runEnd inSuffix s j) ≡ u = ap suffixIn q in (
+            rw (← x),
+            rw (← x) (shown end e),
+            rw (← x, ← y),
+            rw (← y) (suffix-shown j b (c .0)),
+            rw (← y) (ended (DecimalNumericSuffixProgramData v u) t InvalidSuffix s (runEnd inSuffix s j) next (c .1)),
+          )
+      after end e false b h =
+          absurd (false≢true (ap hasSuffix (only-followed (DecimalNumericSuffixProgramData v u) next (DecimalNumericProgramData (viewOf at end)) InvalidSuffix s end h)))
+
+      go : (m : Place) → number s at ≡ m → numericTo s at m ≡ token (DecimalNumericSuffixProgramData v u) next
+          → (v .start ≡ at) × Number (partOf s v) × (u .start ≡ runEnd isWhiteSpace s (v .end)) × Suffix (partOf s u) × Ended s (u .end) next
+      go Nowhere e h = absurd (only-token (DecimalNumericSuffixProgramData v u) next NumericDataError h)
+      go (At end) e h = after end e (beginsSuffix s (runEnd isWhiteSpace s end)) refl h

@@ -1,6 +1,0 @@
--- The claims.
-use Rattle.util.proofs.Decided.{one-answer}
-use Rattle.layout.specs.Claims.{Claims}
-
-pub claims : Claims
-claims = record { one-count = λ t a b. one-answer; one-fields = λ t a b. one-answer; one-blocks = λ t a b. one-answer; one-name = λ t names a b. one-answer }

@@ -1,0 +1,5 @@
+pub mod NumericClaims
+pub mod NumericProgress
+pub mod ChannelClaims
+pub mod ChannelProgress
+pub mod CoordinateClaims

@@ -1,0 +1,3 @@
+pub mod NumericClaims
+pub mod ChannelClaims
+pub mod CoordinateClaims

@@ -1,0 +1,2 @@
+pub mod RecordClaims
+pub mod MessageClaims

@@ -1,0 +1,2 @@
+pub mod MnemonicClaims
+pub mod NameClaims

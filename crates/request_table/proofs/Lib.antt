@@ -1,6 +1,0 @@
--- Laws that belong to no one function.
-pub mod Finds
-pub mod Numbers
-pub mod Pieces
-pub mod Stores
-pub mod Claims

@@ -1,4 +1,0 @@
-pub mod Claims
-pub mod Number
-pub mod Slash
-pub mod Words

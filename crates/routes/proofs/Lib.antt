@@ -1,0 +1,13 @@
+pub mod BranchClaims
+pub mod LayoutClaims
+pub mod SpokenClaims
+pub mod TableClaims
+pub mod RouteClaims
+pub mod Faultless
+pub mod Hearing
+pub mod Outcomes
+pub mod Saying
+pub mod Unique
+pub mod Worked
+pub mod ResolveOnce
+pub mod SpokenBytes

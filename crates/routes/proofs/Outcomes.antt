@@ -1,0 +1,76 @@
+-- What a route's first step says of the answer: one law for each way on from a node. No order of search is left in them but that no
+-- child is spelled.
+use Prim.Native.Nat.{ℕ}
+use mathlib.Core.Path.{_≡_}
+use mathlib.Core.List.{List, [], _∷_}
+use mathlib.Core.Bool.{Bool, true, false}
+use lib.ListN.{getD}
+use Rattle.kind.proofs.Tests.{clash}
+use Rattle.mnemonic.specs.Spelling.{spells}
+use Rattle.node.specs.Word.{commandNumber}
+use Rattle.node.specs.Tree.{branch, default, nameOf, Child, child}
+use Rattle.routes.specs.TableClaims.{Tree}
+use Rattle.header.specs.{Header.undefined, declared.Header.Header}
+use Rattle.ahead.specs.declared.Stop.{Stop}
+use Rattle.routes.specs.Route.{Stage, Route, here, said, unsaid}
+use Rattle.routes.proofs.Unique.{from-same, not-both}
+
+-- the answer is a route's command and the branch that it keeps, with the form and the end given; or there is no route, and it is -113
+pub data Outcome (t names : List ℕ) (query : Bool) (end : Stop) (place : ℕ) (h n : ℕ) (words : List (List ℕ)) : Header → Type 0 where
+  routed : {stages : List Stage} {leaf kept : ℕ} → Route t names h n words stages leaf kept
+      → Outcome t names query end place h n words (Header.Found (commandNumber (getD t leaf 0)) query kept end place)
+  lost : ((stages : List Stage) (leaf kept : ℕ) → Route t names h n words stages leaf kept → ⊥) → Outcome t names query end place h n words undefined
+
+module _ (t names : List ℕ) (query : Bool) (end : Stop) (place : ℕ) where
+  goes-on : {h n leaf kept : ℕ} {w : List ℕ} {words : List (List ℕ)} {stages : List Stage} → Route t names h n (w ∷ words) stages leaf kept → branch t n ≡ true
+  goes-on (said c s r) = c .holder
+  goes-on (unsaid c d r) = c .holder
+
+  module _ {h n : ℕ} where
+    pub at-leaf : branch t n ≡ false → Outcome t names query end place h n [] (Header.Found (commandNumber (getD t n 0)) query h end place)
+    at-leaf m = routed (here m)
+
+    pub past-leaf : {w : List ℕ} {words : List (List ℕ)} → branch t n ≡ false → Outcome t names query end place h n (w ∷ words) undefined
+    past-leaf m = lost (λ stages leaf kept r. clash (goes-on r) m)
+
+    pub no-default : branch t n ≡ true → ((j : ℕ) → Child t n j → default t j ≡ false) → Outcome t names query end place h n [] undefined
+    no-default m never = lost (λ stages leaf kept r. none r)
+      where
+        none : {stages : List Stage} {leaf kept : ℕ} → Route t names h n [] stages leaf kept → ⊥
+        none (here l) = clash m l
+        none (unsaid {k = k} c d r) = clash d (never k c)
+
+    module _ {w : List ℕ} {words : List (List ℕ)} (never : (j : ℕ) → Child t n j → spells (nameOf t names j) w ≡ false) where
+      pub unspelled : ((j : ℕ) → Child t n j → default t j ≡ false) → Outcome t names query end place h n (w ∷ words) undefined
+      unspelled never′ = lost (λ stages leaf kept r. none r)
+        where
+          none : {stages : List Stage} {leaf kept : ℕ} → Route t names h n (w ∷ words) stages leaf kept → ⊥
+          none (said {k = k} c s r) = clash s (never k c)
+          none (unsaid {k = k} c d r) = clash d (never′ k c)
+
+      pub by-default : Tree t names → {k : ℕ} → Child t n k → {r : Header} → default t k ≡ true → Outcome t names query end place h k (w ∷ words) r
+          → Outcome t names query end place h n (w ∷ words) r
+      by-default ok c d (routed r) = routed (unsaid c d r)
+      by-default ok c d (lost l) = lost (λ stages leaf kept r. none r)
+        where
+          none : {stages : List Stage} {leaf kept : ℕ} → Route t names h n (w ∷ words) stages leaf kept → ⊥
+          none (said {k = j} c′ s r) = clash s (never j c′)
+          none (unsaid c′ d′ r) = l _ _ _ (from-same (ok .one-default c c′ d d′) r)
+
+    module _ (ok : Tree t names) {k : ℕ} (c : Child t n k) where
+      pub by-word : {r : Header} {w : List ℕ} {words : List (List ℕ)} → spells (nameOf t names k) w ≡ true → Outcome t names query end place n k words r
+          → Outcome t names query end place h n (w ∷ words) r
+      by-word s (routed r) = routed (said c s r)
+      by-word {w} {words} s (lost l) = lost (λ stages leaf kept r. none r)
+        where
+          none : {stages : List Stage} {leaf kept : ℕ} → Route t names h n (w ∷ words) stages leaf kept → ⊥
+          none (said c′ s′ r) = l _ _ _ (from-same (ok .apart (child c) (child c′) w s s′) r)
+          none (unsaid c′ d r) = not-both t names ok c s c′ d r
+
+      pub at-end : {r : Header} → default t k ≡ true → Outcome t names query end place h k [] r → Outcome t names query end place h n [] r
+      at-end d (routed r) = routed (unsaid c d r)
+      at-end d (lost l) = lost (λ stages leaf kept r. none r)
+        where
+          none : {stages : List Stage} {leaf kept : ℕ} → Route t names h n [] stages leaf kept → ⊥
+          none (here m) = clash (c .holder) m
+          none (unsaid c′ d′ r) = l _ _ _ (from-same (ok .one-default c c′ d d′) r)

@@ -1,0 +1,9 @@
+pub mod BranchClaims
+pub mod LayoutClaims
+pub mod SpokenClaims
+pub mod TableClaims
+pub mod RouteClaims
+pub mod Heard
+pub mod Route
+pub mod WellFormed
+pub mod Worked

@@ -1,0 +1,3 @@
+pub mod StepClaims
+pub mod StepProgress
+pub mod ReaderClaims

@@ -1,0 +1,2 @@
+pub mod StepClaims
+pub mod ReaderClaims

@@ -1,0 +1,3 @@
+pub mod ItemClaims
+pub mod UnitClaims
+pub mod HeaderClaims

@@ -1,0 +1,40 @@
+-- Laws of headers and messages, as the code meets them.
+use Prim.Native.Nat.{ℕ}
+use mathlib.Core.Path.{_≡_, refl}
+use mathlib.Core.List.{List, [], _∷_}
+use native.Mathlib.Omega.{arith}
+use lib.IntN.{ℤ}
+use lib.ListN.{length}
+use borrow.Author.Needs.{needs}
+use Rattle.error.specs.{Code.codeOf, declared.ErrorCode.the-variants.NoSlotLeft}
+use Rattle.tree.specs.declared.Resolved.{Resolved}
+use Rattle.record.specs.declared.Record.{Record}
+use Rattle.message.specs.{Message.Ending, Message.Walks, declared.Walked.Walked}
+use Rattle.words.specs.Outcome.{Outcome}
+use Rattle.unit_words.specs.Answers.{resolvedIn, walkedIn}
+use Rattle.vinderaz.specs.Tree.{Resolving, Walking, no-word, walks}
+
+pub resolving′ : (R : Resolved → Type 0) (slots after : List ℕ) (x : Resolved) (n : ℤ) → R x → record { code = n; words = after } ≡ resolvedIn slots x
+    → Resolving R slots n after
+resolving′ R slots after x n a e = record { says = x; answer = a; outcome = e }
+
+pub ruleset resolve-laws = (needs, resolving′)
+
+nowhere : {M : List Record → Ending → Type 0} (slots units : List ℕ) → length units ≡ 0 → Walking M slots units (codeOf NoSlotLeft) slots units
+nowhere slots [] h = no-word
+nowhere slots (y ∷ units) h = absurd (omega (arith, h))
+
+somewhere : {M : List Record → Ending → Type 0} {slots after : List ℕ} {x : Walked} (units later : List ℕ) (n : ℤ) → (length units ≡ 0 → ⊥)
+    → Walks M slots x after → record { code = n; words = later } ≡ walkedIn units x → Walking M slots units n after later
+somewhere [] later n h w e = absurd (h refl)
+somewhere (y ∷ units) later n h w e = walks w e
+
+module _ (M : List Record → Ending → Type 0) (slots units : List ℕ) where
+  pub no-word′ : length units ≡ 0 → (n : ℤ) → n ≡ codeOf NoSlotLeft → Walking M slots units n slots units
+  no-word′ h n en = rw en (nowhere slots units h)
+
+  pub walking′ : (length units ≡ 0 → ⊥) → (x : Walked) (after later : List ℕ) (n : ℤ) → Walks M slots x after → record { code = n; words = later } ≡ walkedIn units x
+      → Walking M slots units n after later
+  walking′ h x after later n w e = somewhere units later n h w e
+
+pub ruleset walk-laws = (needs, no-word′, walking′)

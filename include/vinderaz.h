@@ -1,4 +1,4 @@
-/* Vinderaz: a reader of SCPI commands in which every answer is proved. Link with libfirmware.a.
+/* Vinderaz: a reader of SCPI commands in which every answer is proved. Link with libvinderaz.a.
 
    Every function answers for every message, list, table and starting branch, and ends; none has to be asked first whether it may be
    called. What the caller must see to is what C cannot tell:

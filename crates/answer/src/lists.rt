@@ -278,20 +278,9 @@ fn put_signed_after(out: &mut Out, sink: Sink, before: u8, n: i64) -> Sink {
 // A number, with a minus where it is below zero.
 fn put_signed(out: &mut Out, sink: Sink, n: i64) -> Sink {
     if n < 0 {
-        return put_after(out, sink, b'-', without_sign(n));
+        return put_after(out, sink, b'-', number::magnitude(n));
     }
-    put_digits(out, sink, without_sign(n))
-}
-
-// A number without its sign. The lowest of all has no opposite among the signed ones.
-fn without_sign(n: i64) -> u64 {
-    if n == i64::MIN {
-        return 9223372036854775808;
-    }
-    if n < 0 {
-        return (0 - n) as u64;
-    }
-    n as u64
+    put_digits(out, sink, number::magnitude(n))
 }
 
 // A word and a number.

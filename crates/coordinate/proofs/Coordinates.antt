@@ -4,7 +4,7 @@ use mathlib.Core.Path.{_≡_, refl, sym, ap, _∙_}
 use mathlib.Core.List.{List, [], _∷_, _++_}
 use mathlib.Core.Option.{Option, none, some}
 use mathlib.Core.Logic.{⊎-elim}
-use mathlib.Core.Bool.{Bool, true, false, cond, false≢true, true≢false}
+use mathlib.Core.Bool.{Bool, true, false, cond, true≢false}
 use native.Mathlib.Omega.{arith}
 use lib.Dec.{eqb, ltb}
 use lib.IntN.{ℤ}
@@ -86,71 +86,29 @@ module _ (s : List ℕ) (at : ℕ) (r : Signed) (er : r ≡ signedAt s at) where
 
 pub ruleset reads = (needs, unjoined-none′, unjoined-large′, unjoined-past′, unjoined-other′, joined′, not-last-none′, not-last-large′, last′, not-last′)
 
--- what a value that was joined tells of the coordinates from its place on
-abbrev joinedValue : ℤ → Joined → ℤ
-joinedValue w (Joined.Value v next) = v
-joinedValue w Joined.Nothing = w
+-- the coordinates of a spec from a joined integer on; there are fewer than two where there is none
+abbrev from : List ℕ → Joined → Option (List ℤ)
+from s (Joined.Value v next) = both (some v) (written (drop next s))
+from s Joined.Nothing = none
 
-abbrev joinedNext : Joined → ℕ
-joinedNext (Joined.Value v next) = next
-joinedNext Joined.Nothing = 0
+joined-written : {A : Type 0} (f : Option (List ℤ) → A) → ((v : ℤ) → f (some (v ∷ [])) ≡ f none) → (s : List ℕ) (at : ℕ)
+    → f (written (drop at s)) ≡ f (from s (joinedAt s at))
+unfolding joinedAt joinedBy standsAt
+joined-written f alone s at = go (signedAt s at) refl
+  where
+    inside : (v : ℤ) (end : ℕ) → signedAt s at ≡ Signed.Value v end → end < length s → (c : Bool) → eqb (getD s end 0) 33 ≡ c
+        → f (written (drop at s)) ≡ f (from s (joinedBy s (Signed.Value v end)))
+    inside v end e h true k = rw (lt-ltb end (length s) h, k, then-bang s at v end e h (eqb-true (getD s end 0) 33 k))
+    inside v end e h false k = rw (lt-ltb end (length s) h, k, then-other s at v end e h (eqb-false (getD s end 0) 33 k))
 
-abbrev isJoined : Joined → Bool
-isJoined (Joined.Value v next) = true
-isJoined Joined.Nothing = false
-
-module _ (s : List ℕ) (i : ℕ) where
-  bang-inside : standsAt 33 s i ≡ true → i < length s
-  unfolding standsAt
-  bang-inside k = ltb-true i (length s) (and-left (ltb i (length s)) (eqb (getD s i 0) 33) k)
-
-  bang-stands : standsAt 33 s i ≡ true → getD s i 0 ≡ 33
-  unfolding standsAt
-  bang-stands k = eqb-true (getD s i 0) 33 (and-right (ltb i (length s)) (eqb (getD s i 0) 33) k)
-
-  bang-missing : i < length s → standsAt 33 s i ≡ false → getD s i 0 ≡ 33 → ⊥
-  unfolding standsAt
-  bang-missing h k e = true≢false (rw (lt-ltb i (length s) h, eq-eqb (getD s i 0) 33 e) at k)
-
--- fewer than two coordinates, or none
-abbrev Few : Option (List ℤ) → Type 0
-Few m = (Pair.Refused ExpressionError ≡ pairOf m) × (Triple.Refused ExpressionError ≡ tripleOf m)
-
-module _ (s : List ℕ) (at : ℕ) where
-  joined-written : (v : ℤ) (next : ℕ) → joinedAt s at ≡ Joined.Value v next → written (drop at s) ≡ both (some v) (written (drop next s))
-  unfolding joinedAt joinedBy
-  joined-written v next = go (signedAt s at) refl
-    where
-      by-bang : (w : ℤ) (end : ℕ) → signedAt s at ≡ Signed.Value w end → (c : Bool) → standsAt 33 s end ≡ c
-          → cond c (Joined.Value w (end + 1)) Joined.Nothing ≡ Joined.Value v next → written (drop at s) ≡ both (some v) (written (drop next s))
-      by-bang w end e true k q =
-          let x : w ≡ v = ap (joinedValue w) q in
-          let y : end + 1 ≡ next = ap joinedNext q in
-          rw (← x, ← y) (then-bang s at w end e (bang-inside s end k) (bang-stands s end k))
-      by-bang w end e false k q = absurd (false≢true (ap isJoined q))
-
-      go : (r : Signed) → signedAt s at ≡ r → joinedBy s r ≡ Joined.Value v next → written (drop at s) ≡ both (some v) (written (drop next s))
-      go (Signed.Value w end) e q = by-bang w end e (standsAt 33 s end) refl q
-      go Signed.NoDigit e q = absurd (false≢true (ap isJoined q))
-      go Signed.TooLarge e q = absurd (false≢true (ap isJoined q))
-
-  unjoined : joinedAt s at ≡ Joined.Nothing → Few (written (drop at s))
-  unfolding joinedAt joinedBy pairOf tripleOf
-  unjoined = go (signedAt s at) refl
-    where
-      by-bang : (w : ℤ) (end : ℕ) → signedAt s at ≡ Signed.Value w end → (c : Bool) → standsAt 33 s end ≡ c
-          → cond c (Joined.Value w (end + 1)) Joined.Nothing ≡ Joined.Nothing → Few (written (drop at s))
-      by-bang w end e true k q = absurd (true≢false (ap isJoined q))
-      by-bang w end e false k q =
-          ⊎-elim
-          (λ h. rw (then-other s at w end e h (bang-missing s end h k)) (refl, refl))
-          (λ h. rw (then-last s at w end e h) (refl, refl))
-          (less-or-not end (length s))
-
-      go : (r : Signed) → signedAt s at ≡ r → joinedBy s r ≡ Joined.Nothing → Few (written (drop at s))
-      go (Signed.Value w end) e q = by-bang w end e (standsAt 33 s end) refl q
-      go Signed.NoDigit e q = rw (then-none s at (ap isValue e)) (refl, refl)
-      go Signed.TooLarge e q = rw (then-none s at (ap isValue e)) (refl, refl)
+    go : (r : Signed) → signedAt s at ≡ r → f (written (drop at s)) ≡ f (from s (joinedBy s r))
+    go (Signed.Value v end) e =
+        ⊎-elim
+        (λ h. inside v end e h (eqb (getD s end 0) 33) refl)
+        (λ h. rw (le-ltb end (length s) h, then-last s at v end e h) (alone v))
+        (less-or-not end (length s))
+    go Signed.NoDigit e = rw (then-none s at (ap isValue e))
+    go Signed.TooLarge e = rw (then-none s at (ap isValue e))
 
 -- a value before what stands from the next place on
 abbrev pairWith : ℤ → Last → Pair
@@ -177,12 +135,17 @@ triple-both v (some (a ∷ b ∷ [])) = refl
 triple-both v (some (a ∷ b ∷ c ∷ vs)) = refl
 
 module _ (s : List ℕ) (at : ℕ) (j : Joined) (ej : j ≡ joinedAt s at) where
+  pair-from : pairOf (written (drop at s)) ≡ pairOf (from s j)
+  unfolding pairOf
+  pair-from = rw ej (joined-written pairOf (λ v. refl) s at)
+
   pub pair-none′ : j ≡ Joined.Nothing → Pair.Refused ExpressionError ≡ pairOf (written (drop at s))
-  pair-none′ q = unjoined s at (sym ej ∙ q) .0
+  unfolding pairOf
+  pair-none′ q = sym (pair-from ∙ rw q)
 
   module _ (v : ℤ) (next : ℕ) (q : j ≡ Joined.Value v next) (l : Last) (el : l ≡ lastOf (written (drop next s))) where
     ends : pairOf (written (drop at s)) ≡ pairWith v l
-    ends = rw (joined-written s at v next (sym ej ∙ q), el) (pair-both v (written (drop next s)))
+    ends = pair-from ∙ rw (q, el) (pair-both v (written (drop next s)))
 
     pub pair′ : (w : ℤ) → l ≡ Last.Value w → Pair.Values v w ≡ pairOf (written (drop at s))
     pair′ w k = sym (ends ∙ rw k)
@@ -191,12 +154,17 @@ module _ (s : List ℕ) (at : ℕ) (j : Joined) (ej : j ≡ joinedAt s at) where
     pair-one′ k = sym (ends ∙ rw k)
 
 module _ (s : List ℕ) (j : Joined) (ej : j ≡ joinedAt s 0) where
+  triple-from : tripleOf (written s) ≡ tripleOf (from s j)
+  unfolding tripleOf
+  triple-from = rw ej (joined-written tripleOf (λ v. refl) s 0)
+
   pub triple-none′ : j ≡ Joined.Nothing → Triple.Refused ExpressionError ≡ tripleOf (written s)
-  triple-none′ q = unjoined s 0 (sym ej ∙ q) .1
+  unfolding tripleOf
+  triple-none′ q = sym (triple-from ∙ rw q)
 
   module _ (v : ℤ) (next : ℕ) (q : j ≡ Joined.Value v next) (p : Pair) (ep : p ≡ pairOf (written (drop next s))) where
     goes-on : tripleOf (written s) ≡ tripleWith v p
-    goes-on = rw (ep) (ap tripleOf (joined-written s 0 v next (sym ej ∙ q)) ∙ triple-both v (written (drop next s)))
+    goes-on = triple-from ∙ rw (q, ep) (triple-both v (written (drop next s)))
 
     pub triple′ : (a b : ℤ) → p ≡ Pair.Values a b → Triple.Values v a b ≡ tripleOf (written s)
     triple′ a b k = sym (goes-on ∙ rw k)

@@ -3,7 +3,7 @@ use Prim.Native.Nat.{ℕ, zero, suc, _+_, _-_, _^_, _≤_, _<_}
 use mathlib.Core.Path.{_≡_, refl, sym, ap, _∙_, fun-ext}
 use mathlib.Core.List.{List, [], _∷_, _++_, append-assoc}
 use mathlib.Core.Option.{Option, none, some}
-use mathlib.Core.Bool.{Bool, true, false, cond, false≢true, and-false}
+use mathlib.Core.Bool.{Bool, true, false, cond, true≢false, and-false}
 use mathlib.Core.Logic.{⊎-elim}
 use native.Mathlib.Omega.{arith}
 use lib.Dec.{eqb, ltb, leb}
@@ -42,22 +42,6 @@ asSigned (some v) end = Signed.Value v end
 decimal-digits : isDigitOf 10 ≡ isDigit
 decimal-digits = fun-ext decimal
 
--- a value that is there
-module _ {A : Type 0} where
-  abbrev isSome : Option A → Bool
-  isSome none = false
-  isSome (some v) = true
-
-  abbrev valueOr : A → Option A → A
-  valueOr w none = w
-  valueOr w (some v) = v
-
-  pub none-some : {v : A} → none ≡ some v → ⊥
-  none-some e = false≢true (ap isSome e)
-
-  pub some-same : {v w : A} → some v ≡ some w → v ≡ w
-  some-same {v = v} e = ap (valueOr v) e
-
 mag-negative : (n : ℕ) → n ≤ 2 ^ 63 → mag (negℤ (pos n)) < 2 ^ 63
 mag-negative zero h = omega arith
 mag-negative (suc n) h = omega (arith, h)
@@ -79,19 +63,15 @@ bounds false n h =
 within : (minus : Bool) (n : ℕ) (v : ℤ) → bounded minus n ≡ some v → (v ≡ signedWith minus n) × (mag v < 2 ^ 63)
 within minus n v e = go minus (ltb n (2 ^ 64)) e
   where
-    below : (c : Bool) → leb n (2 ^ 63) ≡ c → cond c (some (negℤ (pos n))) none ≡ some v → (v ≡ negℤ (pos n)) × (mag v < 2 ^ 63)
-    below true f q = (sym (some-same q), rw (← some-same q) (mag-negative n (leb-true n (2 ^ 63) f)))
-    below false f q = absurd (none-some q)
-
-    above : (c : Bool) → ltb n (2 ^ 63) ≡ c → cond c (some (pos n)) none ≡ some v → (v ≡ pos n) × (mag v < 2 ^ 63)
-    above true f q = (sym (some-same q), rw (← some-same q) (ltb-true n (2 ^ 63) f))
-    above false f q = absurd (none-some q)
+    there : (w : ℤ) (c : Bool) → (c ≡ true → mag w < 2 ^ 63) → cond c (some w) none ≡ some v → (v ≡ w) × (mag v < 2 ^ 63)
+    there w true f q = let e : v ≡ w = cc in (e, rw e (f refl))
+    there w false f q = absurd (true≢false (cc))
 
     go : (m c : Bool) → cond c (worth m n) none ≡ some v → (v ≡ signedWith m n) × (mag v < 2 ^ 63)
-    go true true q = below (leb n (2 ^ 63)) refl q
-    go false true q = above (ltb n (2 ^ 63)) refl q
-    go true false q = absurd (none-some q)
-    go false false q = absurd (none-some q)
+    go true true q = there (negℤ (pos n)) (leb n (2 ^ 63)) (λ f. mag-negative n (leb-true n (2 ^ 63) f)) q
+    go false true q = there (pos n) (ltb n (2 ^ 63)) (ltb-true n (2 ^ 63)) q
+    go true false q = absurd (true≢false (cc))
+    go false false q = absurd (true≢false (cc))
 
 -- digits, one at least, with a sign before them
 module _ (minus : Bool) (at : ℕ) (ds : List ℕ) (h : 0 < length ds) where
@@ -107,17 +87,13 @@ module _ (minus : Bool) (at : ℕ) (ds : List ℕ) (h : 0 < length ds) where
       end : ℕ
       end = at + length ds
 
+      there : (w : ℤ) (d : Bool) → cond d (Signed.Value w end) Signed.TooLarge ≡ asSigned (cond d (some w) none) end
+      there w true = refl
+      there w false = refl
+
       go : (m c : Bool) → signedOf m (cond c (unsigned.Value n end) unsigned.TooLarge) ≡ asSigned (cond c (worth m n) none) end
-      go true true = below (leb n (2 ^ 63))
-        where
-          below : (d : Bool) → cond d (Signed.Value (negℤ (pos n)) end) Signed.TooLarge ≡ asSigned (cond d (some (negℤ (pos n))) none) end
-          below true = refl
-          below false = refl
-      go false true = above (ltb n (2 ^ 63))
-        where
-          above : (d : Bool) → cond d (Signed.Value (pos n) end) Signed.TooLarge ≡ asSigned (cond d (some (pos n)) none) end
-          above true = refl
-          above false = refl
+      go true true = there (negℤ (pos n)) (leb n (2 ^ 63))
+      go false true = there (pos n) (ltb n (2 ^ 63))
       go true false = refl
       go false false = refl
 
@@ -189,24 +165,14 @@ pub decimal-read : (s : List ℕ) (at : ℕ) (w y : List ℕ) → drop at s ≡ 
 decimal-read s at w y h v d stops =
     integer-read s at w y h (d .form) (d .some-digit) stops ∙ ap (λ (o : Option ℤ). asSigned o (at + length w)) (decimal-worth d)
 
-abbrev valueIn : Signed → Option ℤ
-valueIn (Signed.Value v end) = some v
-valueIn Signed.NoDigit = none
-valueIn Signed.TooLarge = none
-
-abbrev endIn : Signed → ℕ
-endIn (Signed.Value v end) = end
-endIn Signed.NoDigit = 0
-endIn Signed.TooLarge = 0
-
 abbrev pub isValue : Signed → Bool
 isValue (Signed.Value v end) = true
 isValue Signed.NoDigit = false
 isValue Signed.TooLarge = false
 
 value-same : (o : Option ℤ) (i : ℕ) (v : ℤ) (end : ℕ) → asSigned o i ≡ Signed.Value v end → (o ≡ some v) × (i ≡ end)
-value-same none i v end e = absurd (false≢true (ap isValue e))
-value-same (some w) i v end e = (ap valueIn e, ap endIn e)
+value-same none i v end e = absurd (true≢false (cc))
+value-same (some w) i v end e = (cc, cc)
 
 none-there : (p : ℕ → Bool) → p 0 ≡ false → (t : List ℕ) → run p t ≡ 0 → p (getD t 0 0) ≡ false
 unfolding run
@@ -261,4 +227,4 @@ module _ (s : List ℕ) (at : ℕ) where
           }
 
       none-found : length (whole-form s at .digits) ≤ 0 → Read s at v end
-      none-found h = absurd (false≢true (ap isValue (sym (no-digits (omega (arith, h))) ∙ e)))
+      none-found h = absurd (true≢false (cc (no-digits (omega arith))))

@@ -4,7 +4,7 @@ use mathlib.Core.Path.{_≡_, refl, sym, ap, _∙_}
 use mathlib.Core.List.{List, [], _∷_, _++_, append-nil}
 use mathlib.Core.Option.{Option, none, some}
 use mathlib.Core.Logic.{_⊎_, inl, inr, ⊎-elim}
-use mathlib.Core.Bool.{Bool, true, false, cond, not, false≢true}
+use mathlib.Core.Bool.{Bool, true, false, cond, not, true≢false}
 use native.Mathlib.Omega.{arith}
 use native.Mathlib.Numerals.{add-one}
 use lib.Dec.{eqb, leb}
@@ -21,7 +21,7 @@ use Rattle.forms.proofs.ItemSeams.{here-next}
 use Rattle.forms.specs.DecimalForm.{Whole}
 use Rattle.coordinate.specs.Coordinate.{onto, parts, whole, integer, both, integers, written}
 use Rattle.coordinate.specs.Form.{Decimal}
-use Rattle.coordinate.proofs.Integers.{Read, isValue, none-some, some-same, decimal-read, integer-form}
+use Rattle.coordinate.proofs.Integers.{Read, isValue, decimal-read, integer-form}
 
 -- no `!` stands in an integer
 abbrev pub plain : ℕ → Bool
@@ -98,10 +98,10 @@ unfolding whole
 all-of t v (Signed.Value w end) e = go (eqb end (length t)) refl e
   where
     go : (c : Bool) → eqb end (length t) ≡ c → cond c (some w) none ≡ some v → Signed.Value w end ≡ Signed.Value v (length t)
-    go true f q = rw (eqb-true end (length t) f, some-same q)
-    go false f q = absurd (none-some q)
-all-of t v Signed.NoDigit e = absurd (none-some e)
-all-of t v Signed.TooLarge e = absurd (none-some e)
+    go true f q = cc (eqb-true end (length t) f)
+    go false f q = absurd (true≢false (cc))
+all-of t v Signed.NoDigit e = absurd (true≢false (cc))
+all-of t v Signed.TooLarge e = absurd (true≢false (cc))
 
 pub integer-is : (t : List ℕ) (v : ℤ) → integer t ≡ some v → Decimal t v
 unfolding integer
@@ -164,4 +164,4 @@ then-none s at e = rw (f .split) (go (integer (f .first)) refl)
 
     go : (o : Option ℤ) → integer (f .first) ≡ o → both o (integers (f .others)) ≡ none
     go none q = refl
-    go (some v) q = absurd (false≢true (sym e ∙ ap isValue (decimal-read s at (f .first) (f .back) (f .joint) v (integer-is (f .first) v q) (f .stops))))
+    go (some v) q = absurd (true≢false (sym (ap isValue (decimal-read s at (f .first) (f .back) (f .joint) v (integer-is (f .first) v q) (f .stops))) ∙ e))

@@ -4,7 +4,7 @@ use mathlib.Core.Path.{_≡_, refl, sym, ap, _∙_}
 use mathlib.Core.List.{List, [], _∷_, _++_, append-nil}
 use mathlib.Core.Option.{Option, none, some}
 use mathlib.Core.Logic.{⊎-elim}
-use mathlib.Core.Bool.{Bool, true, false, _&&_, false≢true, and-false}
+use mathlib.Core.Bool.{true, false, _&&_, true≢false, and-false}
 use native.Mathlib.Omega.{arith}
 use native.Mathlib.Nat.{mod-lt, div-add-mod'}
 use lib.Dec.{eqb, leb, ltb, lit<}
@@ -24,7 +24,7 @@ use Rattle.channel_spec.specs.Item.{refusal, bangEnd, itemBy, itemOf, itemAt}
 use Rattle.coordinate.specs.Coordinate.{parts, integer, both, integers, written, coordinateOf, pairOf, tripleOf}
 use Rattle.coordinate.specs.Form.{signedBy, Decimal, Coordinates, Walk}
 use Rattle.coordinate.specs.{Form.Coordinates.one, Form.Coordinates.more, Form.Walk.ends, Form.Walk.gives, declared.Pair.Pair}
-use Rattle.coordinate.proofs.Integers.{Read, some-byte, none-some, some-same, decimal-read, integer-form}
+use Rattle.coordinate.proofs.Integers.{Read, some-byte, decimal-read, integer-form}
 use Rattle.channel_spec.proofs.Items.{end′}
 use Rattle.coordinate.proofs.Coordinates.{bangs-joined, bangs-plain, one′}
 use Rattle.coordinate.proofs.Parts.{Front, front-of, plain, whole-plain, parts-before, integer-of, integer-is}
@@ -32,7 +32,7 @@ use Rattle.channel_spec.specs.declared.Item.the-variants as item
 use Rattle.coordinate.specs.declared.Coordinate.the-variants as coordinate
 use Rattle.channel_spec.specs.declared.Step.{Step}
 use Rattle.coordinate.specs.declared.Triple.{Triple}
-use Rattle.lists.specs.CoordinateClaims.{pairIn, tripleIn, Claims}
+use Rattle.lists.specs.CoordinateClaims.{Claims}
 
 -- Every number has its digits: those of its tenth, and the last.
 record Digits (n : ℕ) : Type 0 where
@@ -98,18 +98,9 @@ coordinates-read t vs (more w u v ws d c) =
 -- where there are values, there is a first and there are others
 values-apart : (o : Option ℤ) (m : Option (List ℤ)) (vs : List ℤ) → both o m ≡ some vs → (v : ℤ) × (ws : List ℤ) × (o ≡ some v) × (m ≡ some ws) × (vs ≡ v ∷ ws)
 unfolding both
-values-apart none m vs e = absurd (none-some e)
-values-apart (some v) none vs e = absurd (none-some e)
-values-apart (some v) (some ws) vs e = (v, ws, refl, refl, sym (some-same e))
-
--- the first of some parts, and the others
-abbrev first : List (List ℕ) → List ℕ
-first [] = []
-first (p ∷ ps) = p
-
-abbrev others : List (List ℕ) → List (List ℕ)
-others [] = []
-others (p ∷ ps) = ps
+values-apart none m vs e = absurd (true≢false (cc))
+values-apart (some v) none vs e = absurd (true≢false (cc))
+values-apart (some v) (some ws) vs e = (v, ws, refl, refl, cc)
 
 read-coordinates : (ps : List (List ℕ)) (t : List ℕ) (vs : List ℤ) → parts t ≡ ps → integers ps ≡ some vs → Coordinates t vs
 unfolding integers
@@ -123,76 +114,46 @@ read-coordinates (p ∷ ps) t vs e q = go (values-apart (integer p) (integers ps
     same = sym (f .split) ∙ e
 
     whole-text : t ≡ p ++ f .back
-    whole-text = f .joint ∙ ap (λ (x : List ℕ). x ++ f .back) (ap first same)
+    whole-text = cc (f .joint, same)
 
     go : (v : ℤ) × (ws : List ℤ) × (integer p ≡ some v) × (integers ps ≡ some ws) × (vs ≡ v ∷ ws)
         → ((u : List ℕ) (ws : List ℤ) → parts u ≡ ps → integers ps ≡ some ws → Coordinates u ws) → Coordinates t vs
     go (v, ws, ei, em, ev) rest =
         ⊎-elim
         (λ (k : (f .others ≡ []) × (f .back ≡ [])).
-        let z : ws ≡ [] = sym (some-same (ap integers (sym (sym (ap others same) ∙ k .0)) ∙ em)) in
-        let w : t ≡ p = whole-text ∙ ap (λ (x : List ℕ). p ++ x) (k .1) ∙ append-nil p in
+        let n : ps ≡ [] = cc same in
+        let z : ws ≡ [] = cc (rw n at em) in
+        let w : t ≡ p = cc (whole-text, append-nil p) in
         rw (w, ev, z) (one p v (integer-is p v ei)))
         (λ (k : (u : List ℕ) × (f .back ≡ 33 ∷ u) × (parts u ≡ f .others)).
-        let w : t ≡ p ++ (33 ∷ k .0) = whole-text ∙ ap (λ (x : List ℕ). p ++ x) (k .1) in
-        rw (w, ev) (more p (k .0) v ws (integer-is p v ei) (rest (k .0) ws (k .2 ∙ ap others same) em)))
+        let w : t ≡ p ++ (33 ∷ k .0) = cc whole-text in
+        rw (w, ev) (more p (k .0) v ws (integer-is p v ei) (rest (k .0) ws (cc same) em)))
         (f .ends)
 
 -- Two and three of them.
-abbrev isPair : Pair → Bool
-isPair (Pair.Values a b) = true
-isPair (Pair.Refused e) = false
+two : (m : Option (List ℤ)) (a b : ℤ) → pairOf m ≡ Pair.Values a b → m ≡ some (a ∷ b ∷ [])
+unfolding pairOf
+two (some (x ∷ y ∷ [])) a b q = cc
+two (some (x ∷ y ∷ z ∷ vs)) a b q = cc
+two (some (x ∷ [])) a b q = cc
+two (some []) a b q = cc
+two none a b q = cc
 
-abbrev valuesOf : Pair → List ℤ
-valuesOf (Pair.Values a b) = a ∷ b ∷ []
-valuesOf (Pair.Refused e) = []
+three : (m : Option (List ℤ)) (a b c : ℤ) → tripleOf m ≡ Triple.Values a b c → m ≡ some (a ∷ b ∷ c ∷ [])
+unfolding tripleOf
+three (some (x ∷ y ∷ z ∷ [])) a b c q = cc
+three (some (x ∷ y ∷ z ∷ w ∷ vs)) a b c q = cc
+three (some (x ∷ y ∷ [])) a b c q = cc
+three (some (x ∷ [])) a b c q = cc
+three (some []) a b c q = cc
+three none a b c q = cc
 
-abbrev isTriple : Triple → Bool
-isTriple (Triple.Values a b c) = true
-isTriple (Triple.Refused e) = false
-
-abbrev valuesIn : Triple → List ℤ
-valuesIn (Triple.Values a b c) = a ∷ b ∷ c ∷ []
-valuesIn (Triple.Refused e) = []
-
-module _ (t : List ℕ) where
-  pair-read : (a b : ℤ) → Coordinates t (a ∷ b ∷ []) → pairIn t ≡ Pair.Values a b
-  unfolding pairOf
-  pair-read a b c = rw (coordinates-read t (a ∷ b ∷ []) c)
-
-  triple-read : (a b c : ℤ) → Coordinates t (a ∷ b ∷ c ∷ []) → tripleIn t ≡ Triple.Values a b c
-  unfolding tripleOf
-  triple-read a b c k = rw (coordinates-read t (a ∷ b ∷ c ∷ []) k)
-
-  pair-written : (a b : ℤ) → pairIn t ≡ Pair.Values a b → Coordinates t (a ∷ b ∷ [])
-  unfolding written pairOf
-  pair-written a b = go (written t) refl
-    where
-      go : (m : Option (List ℤ)) → written t ≡ m → pairOf m ≡ Pair.Values a b → Coordinates t (a ∷ b ∷ [])
-      go (some (x ∷ y ∷ [])) e q = read-coordinates (parts t) t (a ∷ b ∷ []) refl (e ∙ ap some (ap valuesOf q))
-      go (some (x ∷ y ∷ z ∷ vs)) e q = absurd (false≢true (ap isPair q))
-      go (some (x ∷ [])) e q = absurd (false≢true (ap isPair q))
-      go (some []) e q = absurd (false≢true (ap isPair q))
-      go none e q = absurd (false≢true (ap isPair q))
-
-  triple-written : (a b c : ℤ) → tripleIn t ≡ Triple.Values a b c → Coordinates t (a ∷ b ∷ c ∷ [])
-  unfolding written tripleOf
-  triple-written a b c = go (written t) refl
-    where
-      go : (m : Option (List ℤ)) → written t ≡ m → tripleOf m ≡ Triple.Values a b c → Coordinates t (a ∷ b ∷ c ∷ [])
-      go (some (x ∷ y ∷ z ∷ [])) e q = read-coordinates (parts t) t (a ∷ b ∷ c ∷ []) refl (e ∙ ap some (ap valuesIn q))
-      go (some (x ∷ y ∷ z ∷ w ∷ vs)) e q = absurd (false≢true (ap isTriple q))
-      go (some (x ∷ y ∷ [])) e q = absurd (false≢true (ap isTriple q))
-      go (some (x ∷ [])) e q = absurd (false≢true (ap isTriple q))
-      go (some []) e q = absurd (false≢true (ap isTriple q))
-      go none e q = absurd (false≢true (ap isTriple q))
-
-  one-read : (a : ℤ) → Decimal t a → coordinateOf t ≡ coordinate.Value a
-  unfolding bangs isDigit
-  one-read a d =
-      let k : length t ≤ 0 + length t = omega arith in
-      let z : ltb 0 (bangs (drop (0 + length t) t)) ≡ false = rw (drop-of-length-le t k) in
-      sym (one′ t (signedAt t 0) refl a (0 + length t) (decimal-read t 0 t [] (sym (append-nil t)) a d refl) false (sym z) refl)
+one-read : (t : List ℕ) (a : ℤ) → Decimal t a → coordinateOf t ≡ coordinate.Value a
+unfolding bangs isDigit
+one-read t a d =
+    let k : length t ≤ 0 + length t = omega arith in
+    let z : ltb 0 (bangs (drop (0 + length t) t)) ≡ false = rw (drop-of-length-le t k) in
+    sym (one′ t (signedAt t 0) refl a (0 + length t) (decimal-read t 0 t [] (sym (append-nil t)) a d refl) false (sym z) refl)
 
 dimension : (t : List ℕ) (vs : List ℤ) → Coordinates t vs → dimensionOf t ≡ length vs
 unfolding dimensionOf bangs bang
@@ -204,9 +165,6 @@ dimension t vs (more w u v ws d c) =
 module _ (s : List ℕ) (at : ℕ) where
   rests : length s ≤ at → itemAt s at ≡ record { item = item.End; place = at }
   rests h = sym (end′ s at h)
-
-  stays : length s ≤ at → length s ≤ (itemAt s at) .place
-  stays h = rw (rests h) h
 
   item-moves : (i : ℕ) → at ≤ i → at < length s → (r : Signed) → signedAt s i ≡ r → at < (itemBy s r) .place
   unfolding itemBy refusal
@@ -249,10 +207,6 @@ walk-from s at i t vs h b e (more w u v ws d c) =
     gives at v ws (ap (λ (x : Step). x .item) q)
     (rw q (walk-from s (i + length w) (i + length w + 1) u ws (here-inside s (i + length w) 33 u n) k (here-next s (i + length w) (33 ∷ []) u n) c))
 
-from-front : (t : List ℕ) → standsAt 33 t 0 ≡ false → bangEnd t 0 ≡ 0
-unfolding bangEnd
-from-front t e = rw e
-
 begins : (t : List ℕ) (vs : List ℤ) → Coordinates t vs → (0 < length t) × (standsAt 33 t 0 ≡ false)
 begins t vs (one w v d) =
     let h : 0 < length w = some-byte w v d in
@@ -261,26 +215,22 @@ begins t vs (more w u v ws d c) =
     let h : 0 < length w = some-byte w v d in
     (omega (arith, h, length-append w (33 ∷ u)), no-bang w (33 ∷ u) h (whole-plain w (d .form)))
 
-walk : (t : List ℕ) (vs : List ℤ) → Coordinates t vs → Walk t 0 vs
-walk t vs c = walk-from t 0 0 t vs (begins t vs c .0) (from-front t (begins t vs c .1)) refl c
-
-at-most : (s : List ℕ) (at : ℕ) → (itemAt s (after (λ (i : ℕ). (itemAt s i) .place) (length s) at)) .item ≡ item.End
-at-most s at =
-    rw (rests s (after (λ (i : ℕ). (itemAt s i) .place) (length s) at)
-    (arrives (λ (i : ℕ). i) (λ (i : ℕ). (itemAt s i) .place) (length s) (moves s) (stays s) (length s) at (omega arith)))
-
 pub claims : Claims
+unfolding written pairOf tripleOf bangEnd
 claims =
     record {
       writable = writable;
-      pair-read = pair-read;
-      pair-written = pair-written;
-      triple-read = triple-read;
-      triple-written = triple-written;
+      pair-read = λ t a b c. ap pairOf (coordinates-read t (a ∷ b ∷ []) c);
+      pair-written = λ t a b q. read-coordinates (parts t) t (a ∷ b ∷ []) refl (two (written t) a b q);
+      triple-read = λ t a b c k. ap tripleOf (coordinates-read t (a ∷ b ∷ c ∷ []) k);
+      triple-written = λ t a b c q. read-coordinates (parts t) t (a ∷ b ∷ c ∷ []) refl (three (written t) a b c q);
       one-read = one-read;
       dimension = dimension;
-      walk = walk;
+      walk = λ t vs c. walk-from t 0 0 t vs (begins t vs c .0) (rw (begins t vs c .1)) refl c;
       moves = moves;
       rests = rests;
-      at-most = at-most;
+      at-most =
+          λ s at.
+          rw (rests s (after (λ (i : ℕ). (itemAt s i) .place) (length s) at)
+          (arrives (λ (i : ℕ). i) (λ (i : ℕ). (itemAt s i) .place) (length s) (moves s) (λ i h. rw (rests s i h) h) (length s) at (omega arith)));
     }

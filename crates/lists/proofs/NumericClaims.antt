@@ -7,7 +7,7 @@ use mathlib.Core.Bool.{false, and-false}
 use native.Mathlib.Omega.{arith}
 use lib.Dec.{eqb, ltb}
 use lib.ListN.{length, getD, drop}
-use Rattle.error.specs.{declared.ErrorCode.ErrorCode, declared.ErrorCode.the-variants.InvalidExpression}
+use Rattle.error.specs.declared.ErrorCode.the-variants.{InvalidExpression}
 use Rattle.kind.specs.Class.{isDigit}
 use Rattle.kind.proofs.Tests.{less-or-not}
 use Rattle.util.specs.{Walk.after, Run.standsAt}
@@ -20,7 +20,6 @@ use Rattle.forms.proofs.Decimals.{nrf-read}
 use Rattle.numeric_list.specs.List.{stateOf, taken, refusal, rangeBy, rangeTo, itemBy, itemAt, step}
 use Rattle.lists.specs.NumericClaims.{stateBehind, behindComma, Item, Claims}
 use Rattle.numeric_list.specs.{declared.State.State, declared.Token.the-variants.Numeric, declared.Token.the-variants.NumericRange}
-use Rattle.numeric_list.specs.declared.Token as token
 use Rattle.numeric_list.specs.{declared.Answer.Answer, declared.Step.Step}
 use Rattle.numeric_list.specs.declared.Answer.the-variants.{Token, Refused, End}
 use Rattle.numeric_list.proofs.List.{end′}
@@ -48,33 +47,6 @@ module _ (s : List ℕ) (st : State) where
       (λ h. rw (rests h) h)
       (less-or-not (st .place) (length s))
 
-  module _ (e : ErrorCode) (q : (step s st) .answer ≡ Refused e) where
-    one-refusal : e ≡ InvalidExpression
-    one-refusal = (rw q at tells) .0
-
-    refusal-state : (step s st) .state ≡ stateOf (length s) (st .first)
-    refusal-state = (rw q at tells) .1
-
-  ends : (step s st) .answer ≡ End → length s ≤ (step s st) .state .place
-  ends q = rw q at tells
-
-  items-are-numbers : (t : token.Token) → (step s st) .answer ≡ Token t → Item s (behindComma s (st .place)) t ((step s st) .state .place)
-  items-are-numbers t q = rw q at tells
-
-  stays : length s ≤ st .place → length s ≤ (step s st) .state .place
-  stays h = rw (rests h) h
-
-after-refusal : (s : List ℕ) (st : State) (e : ErrorCode) → (step s st) .answer ≡ Refused e → (step s ((step s st) .state)) .answer ≡ End
-after-refusal s st e q = rw (refusal-state s st e q, rests s (stateOf (length s) (st .first)) (omega arith))
-
-end-stays : (s : List ℕ) (st : State) → (step s st) .answer ≡ End → step s ((step s st) .state) ≡ record { answer = End; state = (step s st) .state }
-end-stays s st q = rests s ((step s st) .state) (ends s st q)
-
-at-most : (s : List ℕ) (st : State) → (step s (after (stateBehind s) (length s) st)) .answer ≡ End
-at-most s st =
-    rw (rests s (after (stateBehind s) (length s) st)
-    (arrives (λ (x : State). x .place) (stateBehind s) (length s) (moves s) (stays s) (length s) st (omega arith)))
-
 -- a number, and perhaps a colon and another
 module _ (s : List ℕ) (st : State) (at : ℕ) (t : List ℕ) where
   number-read : (y : List ℕ) → drop at s ≡ t ++ y → Number t → Stops y → eqb (getD y 0 0) 58 ≡ false
@@ -97,12 +69,15 @@ claims =
     record {
       moves = moves;
       rests = rests;
-      one-refusal = one-refusal;
-      refusal-state = refusal-state;
-      after-refusal = after-refusal;
-      end-stays = end-stays;
-      at-most = at-most;
-      items-are-numbers = items-are-numbers;
+      one-refusal = λ s st e q. (rw q at (tells s st)) .0;
+      refusal-state = λ s st e q. (rw q at (tells s st)) .1;
+      after-refusal = λ s st e q. rw ((rw q at (tells s st)) .1, rests s (stateOf (length s) (st .first)) (omega arith));
+      end-stays = λ s st q. rests s ((step s st) .state) (rw q at (tells s st));
+      at-most =
+          λ s st.
+          rw (rests s (after (stateBehind s) (length s) st)
+          (arrives (λ (x : State). x .place) (stateBehind s) (length s) (moves s) (λ x h. rw (rests s x h, stateBehind) h) (length s) st (omega arith)));
+      items-are-numbers = λ s st t q. rw q at (tells s st);
       number-read = number-read;
       range-read = range-read;
     }

@@ -2,6 +2,7 @@
 ghost use mathlib.Core.Path.{_≡_};
 ghost use mathlib.Core.Bool.{true, false};
 ghost use Prim.Native.Nat.{_+_, _-_, _*_, _/_, _^_, _<_};
+ghost use lib.IntN.{natAbs};
 ghost use Rattle.number.specs.Digit.{digitOf};
 ghost use Rattle.number.specs.Number.{baseOf, foundAt, longer, unsignedAt, signedOf, signedAt};
 
@@ -127,6 +128,19 @@ fn negative(value: u64, end: usize) -> Signed
         };
     }
     Signed::TooLarge
+}
+
+// A number without its sign. The least of all has no opposite among the signed ones.
+pub fn magnitude(value: i64) -> u64
+    ensures { λ r. ⌜ r ≡ natAbs value ⌝ }
+{
+    if value == i64::MIN {
+        return 9223372036854775808;
+    }
+    if value < 0 {
+        return (0 - value) as u64;
+    }
+    value as u64
 }
 
 // How many digits the radix has.

@@ -1,7 +1,6 @@
 // Texts written to a line, each behind the one before it.
 ghost use mathlib.Core.Path.{_≡_};
 ghost use Prim.Native.Nat.{_+_, _≤_};
-ghost use lib.IntN.{natAbs};
 ghost use lib.ListN.{length};
 ghost use Rattle.report.specs.Added.{Added};
 ghost use Rattle.report.specs.Number.{decimal, signed};
@@ -17,8 +16,8 @@ pub(crate) fn add(line: &mut Line, at: usize, text: &[u8]) -> usize
     copy(line, at, text)
 }
 
-// Copies a text, byte by byte.
-fn copy(line: &mut [u8], at: usize, text: &[u8]) -> usize
+// Writes a text to a line of any length, byte by byte.
+pub fn copy(line: &mut [u8], at: usize, text: &[u8]) -> usize
     requires { ⌜ at + length (now text) ≤ length (now line) ⌝ }
     ensures { λ r. ⌜ (Added (now (line .entry)) at (now (text .entry)) (now (line .exit)) r) × (r ≡ at + length (now (text .entry))) ⌝ }
 {
@@ -47,17 +46,7 @@ pub(crate) fn add_signed(line: &mut Line, at: usize, n: i16) -> usize
 {
     if n < 0 {
         let shown = add(line, at, b"-");
-        return add_number(line, shown, without_sign(n));
+        return add_number(line, shown, number::magnitude(n as i64));
     }
-    add_number(line, at, without_sign(n))
-}
-
-// A number without its sign.
-fn without_sign(n: i16) -> u64
-    ensures { λ r. ⌜ r ≡ natAbs n ⌝ }
-{
-    if n < 0 {
-        return (0 - (n as i64)) as u64;
-    }
-    n as u64
+    add_number(line, at, number::magnitude(n as i64))
 }

@@ -1,7 +1,5 @@
 // The unsigned forms of a channel's coordinates: those of `coordinate`, none a negative. expression/channel_list.rs of the original.
 ghost use mathlib.Core.Path.{_≡_};
-ghost use mathlib.Core.Bool.{false};
-ghost use lib.IntN.{natAbs};
 ghost use Rattle.coordinate.specs.Coordinate.{coordinateOf, written, pairOf, tripleOf};
 ghost use Rattle.unsigned_coordinate.specs.Unsigned.{isNegative, unsignedOf, unsignedPairOf, unsignedTripleOf};
 use coordinate::Coordinate;
@@ -29,7 +27,12 @@ pub fn read_unsigned_coordinate(spec: &[u8]) -> UnsignedCoordinate
     ensures { λ r. ⌜ r ≡ unsignedOf (coordinateOf (now (spec .entry))) ⌝ }
 {
     match coordinate::read_coordinate(spec) {
-        Coordinate::Value(value) => unsigned_value(value),
+        Coordinate::Value(value) => {
+            if is_negative(value) {
+                return UnsignedCoordinate::Refused(ErrorCode::IllegalParameterValue);
+            }
+            UnsignedCoordinate::Value(number::magnitude(value))
+        }
         Coordinate::Refused(e) => UnsignedCoordinate::Refused(e),
     }
 }
@@ -39,7 +42,15 @@ pub fn read_unsigned_pair(spec: &[u8]) -> UnsignedPair
     ensures { λ r. ⌜ r ≡ unsignedPairOf (pairOf (written (now (spec .entry)))) ⌝ }
 {
     match coordinate::read_pair(spec) {
-        Pair::Values(first, second) => unsigned_pair(first, second),
+        Pair::Values(first, second) => {
+            if is_negative(first) {
+                return UnsignedPair::Refused(ErrorCode::IllegalParameterValue);
+            }
+            if is_negative(second) {
+                return UnsignedPair::Refused(ErrorCode::IllegalParameterValue);
+            }
+            UnsignedPair::Values(number::magnitude(first), number::magnitude(second))
+        }
         Pair::Refused(e) => UnsignedPair::Refused(e),
     }
 }
@@ -49,61 +60,28 @@ pub fn read_unsigned_triple(spec: &[u8]) -> UnsignedTriple
     ensures { λ r. ⌜ r ≡ unsignedTripleOf (tripleOf (written (now (spec .entry)))) ⌝ }
 {
     match coordinate::read_triple(spec) {
-        Triple::Values(first, second, third) => unsigned_triple(first, second, third),
+        Triple::Values(first, second, third) => {
+            if is_negative(first) {
+                return UnsignedTriple::Refused(ErrorCode::IllegalParameterValue);
+            }
+            if is_negative(second) {
+                return UnsignedTriple::Refused(ErrorCode::IllegalParameterValue);
+            }
+            if is_negative(third) {
+                return UnsignedTriple::Refused(ErrorCode::IllegalParameterValue);
+            }
+            UnsignedTriple::Values(
+                number::magnitude(first),
+                number::magnitude(second),
+                number::magnitude(third),
+            )
+        }
         Triple::Refused(e) => UnsignedTriple::Refused(e),
     }
-}
-
-fn unsigned_value(value: i64) -> UnsignedCoordinate
-    ensures { λ r. ⌜ r ≡ unsignedOf (Coordinate.Value value) ⌝ }
-{
-    if is_negative(value) {
-        return UnsignedCoordinate::Refused(ErrorCode::IllegalParameterValue);
-    }
-    UnsignedCoordinate::Value(without_sign(value))
-}
-
-fn unsigned_pair(first: i64, second: i64) -> UnsignedPair
-    ensures { λ r. ⌜ r ≡ unsignedPairOf (Pair.Values first second) ⌝ }
-{
-    if is_negative(first) {
-        return UnsignedPair::Refused(ErrorCode::IllegalParameterValue);
-    }
-    if is_negative(second) {
-        return UnsignedPair::Refused(ErrorCode::IllegalParameterValue);
-    }
-    UnsignedPair::Values(without_sign(first), without_sign(second))
-}
-
-fn unsigned_triple(first: i64, second: i64, third: i64) -> UnsignedTriple
-    ensures { λ r. ⌜ r ≡ unsignedTripleOf (Triple.Values first second third) ⌝ }
-{
-    if is_negative(first) {
-        return UnsignedTriple::Refused(ErrorCode::IllegalParameterValue);
-    }
-    if is_negative(second) {
-        return UnsignedTriple::Refused(ErrorCode::IllegalParameterValue);
-    }
-    if is_negative(third) {
-        return UnsignedTriple::Refused(ErrorCode::IllegalParameterValue);
-    }
-    UnsignedTriple::Values(
-        without_sign(first),
-        without_sign(second),
-        without_sign(third),
-    )
 }
 
 fn is_negative(value: i64) -> bool
     ensures { λ r. ⌜ r ≡ isNegative value ⌝ }
 {
     value < 0
-}
-
-// A number that is no negative, as an unsigned one.
-fn without_sign(value: i64) -> u64
-    requires { ⌜ isNegative value ≡ false ⌝ }
-    ensures { λ r. ⌜ r ≡ natAbs value ⌝ }
-{
-    value as u64
 }

@@ -3,5 +3,6 @@ use Rattle.unsigned_coordinate.proofs.read_unsigned_pair as f
 
 pub read-unsigned-pair-spec : {M : Type 1} → f.Statement.statement M
 read-unsigned-pair-spec =
-    f.Tie.close (f.Tie.spec (λ c κs. search laws) (λ c. search laws) (λ c κs. search laws) (λ c. search laws) (λ c. search laws)
+    f.Tie.close (f.Tie.spec (λ c κs. search laws) (λ c. search laws) (λ c κs. search laws) (λ c. search laws)
+    (λ c κs. search laws) (λ c. search laws) (λ c κs. search laws) (λ c κs. search laws) (λ c. search laws) (λ c. search laws)
     (λ c. search laws))

@@ -103,10 +103,8 @@ joined-written f alone s at = go (signedAt s at) refl
 
     go : (r : Signed) → signedAt s at ≡ r → f (written (drop at s)) ≡ f (from s (joinedBy s r))
     go (Signed.Value v end) e =
-        ⊎-elim
-        (λ h. inside v end e h (eqb (getD s end 0) 33) refl)
-        (λ h. rw (le-ltb end (length s) h, then-last s at v end e h) (alone v))
-        (less-or-not end (length s))
+        ⊎-elim (λ h. inside v end e h (eqb (getD s end 0) 33) refl)
+        (λ h. rw (le-ltb end (length s) h, then-last s at v end e h) (alone v)) (less-or-not end (length s))
     go Signed.NoDigit e = rw (then-none s at (ap isValue e))
     go Signed.TooLarge e = rw (then-none s at (ap isValue e))
 
@@ -242,10 +240,7 @@ module _ (s : List ℕ) where
     no-first : isValue r ≡ false → bangs s ≡ 0 → firstOf ((itemAt s 0) .item) ≡ Coordinate.Refused ExpressionError
     unfolding firstOf itemAt
     no-first q z =
-        ⊎-elim
-        (λ h. rw (first-item z h, refused-item q))
-        (λ h. rw (le-leb (length s) 0 h))
-        (less-or-not 0 (length s))
+        ⊎-elim (λ h. rw (first-item z h, refused-item q)) (λ h. rw (le-leb (length s) 0 h)) (less-or-not 0 (length s))
 
     same-refusal : isValue r ≡ false → noCoordinate s ≡ coordinateOf s
     unfolding noCoordinate coordinateOf

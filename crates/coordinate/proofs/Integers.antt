@@ -158,8 +158,7 @@ decimal-worth {v = v} d =
 
 -- it has a byte at least
 pub some-byte : (t : List ℕ) (v : ℤ) → Decimal t v → 0 < length t
-some-byte t v d =
-    omega (arith, ap length (d .form .parts), length-append (d .form .sign) (d .form .digits), d .some-digit)
+some-byte t v d = omega (arith, ap length (d .form .parts), length-append (d .form .sign) (d .form .digits), d .some-digit)
 
 pub decimal-read : (s : List ℕ) (at : ℕ) (w y : List ℕ) → drop at s ≡ w ++ y → (v : ℤ) → Decimal w v → isDigit (getD y 0 0) ≡ false → signedAt s at ≡ Signed.Value v (at + length w)
 decimal-read s at w y h v d stops =

@@ -12,14 +12,14 @@ use lib.Seq.{drop-cons, getD-take, getD-drop}
 use borrow.Author.Tests.{eqb-true, lt-ltb, ltb-true, leb-true}
 use Rattle.error.specs.declared.ErrorCode.the-variants.{NumericDataError, InvalidSuffix, SuffixTooLong}
 use Rattle.kind.specs.Class.{isWhiteSpace, isSign, isDigit, isLetter, isCapital, isSmall}
-use Rattle.kind.proofs.Tests.{either, or-left, and-left, and-right, less-or-not}
+use Rattle.kind.proofs.Tests.{by-test, either, or-left, and-left, and-right, less-or-not}
 use Rattle.util.specs.Run.{runEnd, signEnd, every, standsAt}
 use Rattle.util.proofs.Runs.{run-from}
 use Rattle.token.specs.{Token.viewIn, View.viewOf, View.partOf, declared.View.View, declared.Token.Token}
 use Rattle.token.specs.declared.Token.the-variants.{HeaderMnemonicSeparator, HeaderQuerySuffix, ProgramMessageUnitSeparator, ProgramHeaderSeparator, ProgramDataSeparator, ProgramMnemonic, CharacterProgramData, DecimalNumericProgramData, DecimalNumericSuffixProgramData, NonDecimalNumericProgramData, StringProgramData, ArbitraryBlockData, ExpressionProgramData}
 use Rattle.item.specs.Follow.{token, followed}
 use Rattle.forms.specs.ItemForm.{Ended}
-use Rattle.forms.proofs.ItemAccepted.{nextIn, tokenIn, only-then, only-token, only-followed, ended, part, part-shown, part-joined, part-run, part-length, run-inside, run-most}
+use Rattle.forms.proofs.ItemAccepted.{only-then, only-token, only-followed, ended, part, part-shown, part-joined, part-run, part-length, run-inside, run-most}
 use Rattle.forms.proofs.{ItemProgress.run-moves, DecimalProgress.sign-from, DecimalProgress.whole-from}
 use Rattle.decimal.specs.Decimal.{wholeEnd, hasWhole, fractionEnd, hasFraction, mantissa, beginsExponent, exponent, withExponent, number, numberTo, nrf, inSuffix, beginsSuffix, suffixed, suffixData, numericTo, numericData}
 use Rattle.forms.specs.DecimalForm.{Whole, Fraction, Exponent, Number, Suffix}
@@ -27,81 +27,35 @@ use Rattle.decimal.specs.declared.Place.{Place}
 use Rattle.decimal.specs.declared.Place.the-variants.{At, Nowhere}
 use Rattle.decimal.proofs.Decimals.{fraction-from}
 
--- the suffix of a number
-abbrev suffixIn : Token → View
-suffixIn (DecimalNumericSuffixProgramData v u) = u
-suffixIn (ProgramMnemonic v) = v
-suffixIn (CharacterProgramData v) = v
-suffixIn (DecimalNumericProgramData v) = v
-suffixIn (StringProgramData v) = v
-suffixIn (ArbitraryBlockData v) = v
-suffixIn (ExpressionProgramData v) = v
-suffixIn (NonDecimalNumericProgramData n) = viewOf 0 0
-suffixIn HeaderMnemonicSeparator = viewOf 0 0
-suffixIn HeaderQuerySuffix = viewOf 0 0
-suffixIn ProgramMessageUnitSeparator = viewOf 0 0
-suffixIn ProgramHeaderSeparator = viewOf 0 0
-suffixIn ProgramDataSeparator = viewOf 0 0
-
--- a number with a suffix
-abbrev hasSuffix : Token → Bool
-hasSuffix (DecimalNumericSuffixProgramData v u) = true
-hasSuffix (ProgramMnemonic v) = false
-hasSuffix (CharacterProgramData v) = false
-hasSuffix (DecimalNumericProgramData v) = false
-hasSuffix (StringProgramData v) = false
-hasSuffix (ArbitraryBlockData v) = false
-hasSuffix (ExpressionProgramData v) = false
-hasSuffix (NonDecimalNumericProgramData n) = false
-hasSuffix HeaderMnemonicSeparator = false
-hasSuffix HeaderQuerySuffix = false
-hasSuffix ProgramMessageUnitSeparator = false
-hasSuffix ProgramHeaderSeparator = false
-hasSuffix ProgramDataSeparator = false
-
-abbrev isAt : Place → Bool
-isAt (At i) = true
-isAt Nowhere = false
-
-abbrev placeOf : Place → ℕ
-placeOf (At i) = i
-placeOf Nowhere = 0
+-- what numeric data is: a number alone, or with a suffix
+data Numeric (s : List ℕ) (at next : ℕ) : Token → Type 0 where
+  alone : {v : View} → v .start ≡ at → Number (partOf s v) → Ended s (v .end) next → Numeric s at next (DecimalNumericProgramData v)
+  with-suffix : {v u : View} → v .start ≡ at → Number (partOf s v) → u .start ≡ runEnd isWhiteSpace s (v .end) → Suffix (partOf s u) → Ended s (u .end) next
+      → Numeric s at next (DecimalNumericSuffixProgramData v u)
 
 -- a place where a byte of a class stands that 0 is not of is inside the text
 inside : (p : ℕ → Bool) → p 0 ≡ false → (s : List ℕ) (i : ℕ) → p (getD s i 0) ≡ true → i < length s
 inside p z s i h =
-    ⊎-elim (λ k. k)
-    (λ k. let e : getD s i 0 ≡ 0 = List·getD-eq-default s 0 k in absurd (true≢false (sym h ∙ ap p e ∙ z)))
+    ⊎-elim (λ k. k) (λ k. let e : getD s i 0 ≡ 0 = List·getD-eq-default s 0 k in absurd (true≢false (sym h ∙ ap p e ∙ z)))
     (less-or-not i (length s))
 
 module _ (s : List ℕ) (i : ℕ) where
   part-none : part s i i ≡ []
-  part-none = let e : i - i ≡ 0 = omega arith in rw e (none (drop i s))
-    where
-      none : (t : List ℕ) → take 0 t ≡ []
-      none [] = refl
-      none (b ∷ t) = refl
+  part-none = let e : i - i ≡ 0 = omega arith in rw e
 
   part-one : i < length s → part s i (i + 1) ≡ getD s i 0 ∷ []
   part-one h = let e : i + 1 - i ≡ 1 = omega arith in rw (e, drop-cons s i 0 h)
 
   sign-most : i ≤ length s → signEnd s i ≤ length s
   unfolding signEnd isSign
-  sign-most h = go (isSign (getD s i 0)) refl
-    where
-      go : (c : Bool) → isSign (getD s i 0) ≡ c → cond c (i + 1) i ≤ length s
-      go true e = omega (arith, inside isSign refl s i e)
-      go false e = h
+  sign-most h = by-test (λ (k : ℕ). k ≤ length s) (isSign (getD s i 0)) (λ e. omega (arith, inside isSign refl s i e)) (λ _. h)
 
   sign-part : (every isSign (part s i (signEnd s i)) ≡ true) × (length (part s i (signEnd s i)) ≤ 1)
   unfolding signEnd isSign every
-  sign-part = go (isSign (getD s i 0)) refl
-    where
-      go : (c : Bool) → isSign (getD s i 0) ≡ c → (every isSign (part s i (cond c (i + 1) i)) ≡ true) × (length (part s i (cond c (i + 1) i)) ≤ 1)
-      go true e =
-          let f : part s i (i + 1) ≡ getD s i 0 ∷ [] = part-one (inside isSign refl s i e) in
-          (ap (every isSign) f ∙ and-true (isSign (getD s i 0)) ∙ e, omega (arith, ap length f))
-      go false e = (ap (every isSign) part-none, omega (arith, ap length part-none))
+  sign-part =
+      by-test (λ (k : ℕ). (every isSign (part s i k) ≡ true) × (length (part s i k) ≤ 1)) (isSign (getD s i 0))
+      (λ e. let f = part-one (inside isSign refl s i e) in (ap (every isSign) f ∙ rw e, omega (arith, ap length f)))
+      (λ e. (ap (every isSign) part-none, omega (arith, ap length part-none)))
 
   pub whole-form : Whole (part s i (wholeEnd s i))
   unfolding wholeEnd
@@ -160,45 +114,26 @@ module _ (s : List ℕ) (i : ℕ) where
       go : (c : Bool) → standsAt 46 s i ≡ c → Back s i
       go true e =
           record {
-            form =
-                record {
-                  point = 46 ∷ [];
-                  digits = part s (i + 1) (runEnd isDigit s (i + 1));
-                  parts = rw e (pointed e);
-                  point-or-none = inr refl;
-                  all-digit = part-run s isDigit (i + 1);
-                };
+            form = record { point = 46 ∷ []; digits = part s (i + 1) (runEnd isDigit s (i + 1)); parts = rw e (pointed e); point-or-none = inr refl; all-digit = part-run s isDigit (i + 1) };
             count = rw e (part-length s isDigit (i + 1) ∙ omega arith);
           }
       go false e =
           record {
-            form =
-                record {
-                  point = [];
-                  digits = [];
-                  parts = rw e (part-none s i);
-                  point-or-none = inl (refl, refl);
-                  all-digit = refl;
-                };
+            form = record { point = []; digits = []; parts = rw e (part-none s i); point-or-none = inl (refl, refl); all-digit = refl };
             count = rw e (omega arith);
           }
 
   -- a digit behind the point makes it end inside the text, and so does a place that is inside
   fraction-most : i ≤ length s → fractionEnd s i ≤ length s
   unfolding fractionEnd
-  fraction-most h = go (standsAt 46 s i) refl
-    where
-      go : (c : Bool) → standsAt 46 s i ≡ c → cond c (runEnd isDigit s (i + 1)) i ≤ length s
-      go true e = run-most s isDigit (i + 1) (omega (arith, dot-inside e))
-      go false e = h
+  fraction-most h =
+      by-test (λ (k : ℕ). k ≤ length s) (standsAt 46 s i) (λ e. run-most s isDigit (i + 1) (omega (arith, dot-inside e))) (λ _. h)
 
   fraction-inside : hasFraction s i ≡ true → i ≤ length s
   unfolding hasFraction fractionEnd
-  fraction-inside h = go (standsAt 46 s i) refl (ltb-true 1 (fractionEnd s i - i) h)
-    where
-      go : (c : Bool) → standsAt 46 s i ≡ c → 1 < cond c (runEnd isDigit s (i + 1)) i - i → i ≤ length s
-      go true e k = omega (arith, dot-inside e)
-      go false e k = absurd (omega (arith, k))
+  fraction-inside h =
+      by-test (λ (k : ℕ). 1 < k - i → i ≤ length s) (standsAt 46 s i)
+      (λ e _. omega (arith, dot-inside e)) (λ _ k. absurd (omega arith)) (ltb-true 1 (fractionEnd s i - i) h)
 
   fraction-digits : hasFraction s i ≡ true → 0 < length (fraction-form .form .digits)
   unfolding hasFraction
@@ -213,11 +148,11 @@ module _ (s : List ℕ) (i : ℕ) where
           → cond c (cond d (At (wholeEnd s (i + 1))) Nowhere) (At i) ≡ At end
           → (i ≤ end) × (end ≤ length s) × ((part s i end ≡ []) ⊎ Exponent (part s i end))
       go false d b w e =
-          let m : i ≡ end = ap placeOf e in
+          let m : i ≡ end = cc in
           (omega (arith, m), omega (arith, m, h), inl (ap (λ (k : ℕ). part s i k) (sym m) ∙ part-none s i))
-      go true false b w e = absurd (false≢true (ap isAt e))
+      go true false b w e = let z : _≡_ {A = ℕ} 0 1 = cc in absurd (omega arith)
       go true true b w e =
-          let m : wholeEnd s (i + 1) ≡ end = ap placeOf e in
+          let m : wholeEnd s (i + 1) ≡ end = cc in
           let k : i < length s = inside beginsExponent refl s i b in
           let f : part s i end ≡ getD s i 0 ∷ part s (i + 1) (wholeEnd s (i + 1)) =
           rw (← m) (part-joined s i (i + 1) (wholeEnd s (i + 1)) (omega arith) (whole-from s (i + 1))
@@ -270,12 +205,10 @@ module _ (s : List ℕ) (at : ℕ) where
           → withExponent s (cond (c || d) (At (fractionEnd s (wholeEnd s at))) Nowhere) ≡ At end → Found s at end
       go true d hc hd e = with-digit (whole-inside s at hc) (omega (arith, whole-digits s at hc)) e
       go false true hc hd e = with-digit (fraction-inside s (wholeEnd s at) hd) (omega (arith, fraction-digits s (wholeEnd s at) hd)) e
-      go false false hc hd e = absurd (false≢true (ap isAt e))
+      go false false hc hd e = let z : _≡_ {A = ℕ} 0 1 = cc in absurd (omega arith)
 
   shown : (end : ℕ) → number s at ≡ At end → Number (partOf s (viewOf at end))
-  shown end e =
-      let f : Found s at end = found end e in
-      rw (part-shown s at end (f .forward) (f .inside-text)) (f .form)
+  shown end e = let f : Found s at end = found end e in rw (part-shown s at end (f .forward) (f .inside-text)) (f .form)
 
   pub nrf-form : (t : Token) (next : ℕ) → nrf s at ≡ token t next → (t ≡ DecimalNumericProgramData (viewOf at next)) × Number (partOf s (viewOf at next))
   unfolding nrf numberTo
@@ -283,9 +216,7 @@ module _ (s : List ℕ) (at : ℕ) where
     where
       go : (m : Place) → number s at ≡ m → numberTo at m ≡ token t next → (t ≡ DecimalNumericProgramData (viewOf at next)) × Number (partOf s (viewOf at next))
       go Nowhere e h = absurd (only-token t next NumericDataError h)
-      go (At end) e h =
-          let n : end ≡ next = ap nextIn h in
-          (rw (← n) (sym (ap tokenIn h)), rw (← n) (shown end e))
+      go (At end) e h = let n : end ≡ next = cc in (cc, rw (← n) (shown end e))
 
   -- a letter or `/` is first
   suffix-first : (j : ℕ) → beginsSuffix s j ≡ true → beginsSuffix (part s j (runEnd inSuffix s j)) 0 ≡ true
@@ -306,51 +237,33 @@ module _ (s : List ℕ) (at : ℕ) where
       rw (part-shown s j (runEnd inSuffix s j) (run-from inSuffix s j) (run-most s inSuffix j (omega (arith, l))))
       (record { first = suffix-first j h; all-suffix = part-run s inSuffix j; at-most = omega (arith, part-length s inSuffix j, leb-true (runEnd inSuffix s j - j) 12 k) })
 
-  pub number-form : (v : View) (next : ℕ) → numericData s at ≡ token (DecimalNumericProgramData v) next → (v .start ≡ at) × Number (partOf s v) × Ended s (v .end) next
+  accepted : (t : Token) (next : ℕ) → numericData s at ≡ token t next → Numeric s at next t
   unfolding numericData numericTo suffixData suffixed
-  number-form v next = go (number s at) refl
+  accepted t next = go (number s at) refl
     where
-      after : (end : ℕ) → number s at ≡ At end → (c : Bool)
-          → cond c (suffixed s (viewOf at end) (runEnd isWhiteSpace s end)) (followed (DecimalNumericProgramData (viewOf at end)) InvalidSuffix s end) ≡ token (DecimalNumericProgramData v) next
-          → (v .start ≡ at) × Number (partOf s v) × Ended s (v .end) next
-      after end e true h =
-          let j : ℕ = runEnd isWhiteSpace s end in
-          let t = DecimalNumericSuffixProgramData (viewOf at end) (viewOf j (runEnd inSuffix s j)) in
-          let c = only-then (DecimalNumericProgramData v) next (leb (runEnd inSuffix s j - j) 12) (followed t InvalidSuffix s (runEnd inSuffix s j)) SuffixTooLong h in
-          absurd (true≢false (ap hasSuffix (only-followed (DecimalNumericProgramData v) next t InvalidSuffix s (runEnd inSuffix s j) (c .1))))
-      after end e false h =
-          let q : viewOf at end ≡ v = ap viewIn (only-followed (DecimalNumericProgramData v) next (DecimalNumericProgramData (viewOf at end)) InvalidSuffix s end h) in
-          (rw (← q), rw (← q) (shown end e), rw (← q) (ended (DecimalNumericProgramData v) (DecimalNumericProgramData (viewOf at end)) InvalidSuffix s end next h))
+      after : (end : ℕ) → number s at ≡ At end → (c : Bool) → beginsSuffix s (runEnd isWhiteSpace s end) ≡ c
+          → cond c (suffixed s (viewOf at end) (runEnd isWhiteSpace s end)) (followed (DecimalNumericProgramData (viewOf at end)) InvalidSuffix s end) ≡ token t next
+          → Numeric s at next t
+      after end e true b h =
+          let c = only-then t next _ _ _ h in
+          let q = only-followed t next _ _ _ _ (c .1) in
+          rw (← q) (with-suffix refl (shown end e) refl (suffix-shown _ b (c .0)) (ended t _ _ _ _ next (c .1)))
+      after end e false b h = let q = only-followed t next _ _ _ _ h in rw (← q) (alone refl (shown end e) (ended t _ _ _ _ next h))
 
-      go : (m : Place) → number s at ≡ m → numericTo s at m ≡ token (DecimalNumericProgramData v) next → (v .start ≡ at) × Number (partOf s v) × Ended s (v .end) next
-      go Nowhere e h = absurd (only-token (DecimalNumericProgramData v) next NumericDataError h)
-      go (At end) e h = after end e (beginsSuffix s (runEnd isWhiteSpace s end)) h
+      go : (m : Place) → number s at ≡ m → numericTo s at m ≡ token t next → Numeric s at next t
+      go Nowhere e h = absurd (only-token t next NumericDataError h)
+      go (At end) e h = after end e _ refl h
+
+  pub number-form : (v : View) (next : ℕ) → numericData s at ≡ token (DecimalNumericProgramData v) next → (v .start ≡ at) × Number (partOf s v) × Ended s (v .end) next
+  number-form v next h = go (accepted _ next h)
+    where
+      go : Numeric s at next (DecimalNumericProgramData v) → (v .start ≡ at) × Number (partOf s v) × Ended s (v .end) next
+      go (alone a n e) = (a, n, e)
 
   pub suffix-form : (v u : View) (next : ℕ) → numericData s at ≡ token (DecimalNumericSuffixProgramData v u) next
       → (v .start ≡ at) × Number (partOf s v) × (u .start ≡ runEnd isWhiteSpace s (v .end)) × Suffix (partOf s u) × Ended s (u .end) next
-  unfolding numericData numericTo suffixData suffixed
-  suffix-form v u next = go (number s at) refl
+  suffix-form v u next h = go (accepted _ next h)
     where
-      after : (end : ℕ) → number s at ≡ At end → (c : Bool) → beginsSuffix s (runEnd isWhiteSpace s end) ≡ c
-          → cond c (suffixed s (viewOf at end) (runEnd isWhiteSpace s end)) (followed (DecimalNumericProgramData (viewOf at end)) InvalidSuffix s end) ≡ token (DecimalNumericSuffixProgramData v u) next
+      go : Numeric s at next (DecimalNumericSuffixProgramData v u)
           → (v .start ≡ at) × Number (partOf s v) × (u .start ≡ runEnd isWhiteSpace s (v .end)) × Suffix (partOf s u) × Ended s (u .end) next
-      after end e true b h =
-          let j : ℕ = runEnd isWhiteSpace s end in
-          let t = DecimalNumericSuffixProgramData (viewOf at end) (viewOf j (runEnd inSuffix s j)) in
-          let c = only-then (DecimalNumericSuffixProgramData v u) next (leb (runEnd inSuffix s j - j) 12) (followed t InvalidSuffix s (runEnd inSuffix s j)) SuffixTooLong h in
-          let q : t ≡ DecimalNumericSuffixProgramData v u = only-followed (DecimalNumericSuffixProgramData v u) next t InvalidSuffix s (runEnd inSuffix s j) (c .1) in
-          let x : viewOf at end ≡ v = ap viewIn q in
-          let y : viewOf j (runEnd inSuffix s j) ≡ u = ap suffixIn q in (
-            rw (← x),
-            rw (← x) (shown end e),
-            rw (← x, ← y),
-            rw (← y) (suffix-shown j b (c .0)),
-            rw (← y) (ended (DecimalNumericSuffixProgramData v u) t InvalidSuffix s (runEnd inSuffix s j) next (c .1)),
-          )
-      after end e false b h =
-          absurd (false≢true (ap hasSuffix (only-followed (DecimalNumericSuffixProgramData v u) next (DecimalNumericProgramData (viewOf at end)) InvalidSuffix s end h)))
-
-      go : (m : Place) → number s at ≡ m → numericTo s at m ≡ token (DecimalNumericSuffixProgramData v u) next
-          → (v .start ≡ at) × Number (partOf s v) × (u .start ≡ runEnd isWhiteSpace s (v .end)) × Suffix (partOf s u) × Ended s (u .end) next
-      go Nowhere e h = absurd (only-token (DecimalNumericSuffixProgramData v u) next NumericDataError h)
-      go (At end) e h = after end e (beginsSuffix s (runEnd isWhiteSpace s end)) refl h
+      go (with-suffix a n b x e) = (a, n, b, x, e)

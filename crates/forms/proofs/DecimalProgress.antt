@@ -43,8 +43,7 @@ module _ (s : List ℕ) (at : ℕ) where
 
       some : (hasWhole s at || hasFraction s (wholeEnd s at)) ≡ true → at < end
       some e =
-          ⊎-elim
-          (λ w. omega (arith, ltb-true (signEnd s at) (wholeEnd s at) w, sign-from s at, fraction-from s (wholeEnd s at)))
+          ⊎-elim (λ w. omega (arith, ltb-true (signEnd s at) (wholeEnd s at) w, sign-from s at, fraction-from s (wholeEnd s at)))
           (λ f. omega (arith, ltb-true 1 (end - wholeEnd s at) f, whole-from s at))
           (either (hasWhole s at) (hasFraction s (wholeEnd s at)) e)
 
@@ -52,8 +51,7 @@ module _ (s : List ℕ) (at : ℕ) where
   unfolding exponent
   exponent-ends end h =
       by-test (Ends at) (beginsExponent (getD s end 0))
-      (λ _. by-test (Ends at) (hasWhole s (end + 1)) (λ _. omega (arith, h, whole-from s (end + 1))) (λ _. tt))
-      (λ _. h)
+      (λ _. by-test (Ends at) (hasWhole s (end + 1)) (λ _. omega (arith, h, whole-from s (end + 1))) (λ _. tt)) (λ _. h)
 
   with-exponent : (p : Place) → Ends at p → Ends at (withExponent s p)
   unfolding withExponent

@@ -77,8 +77,7 @@ module _ (s : List ℕ) (i : ℕ) (w y : List ℕ) (h : drop i s ≡ w ++ y) (f 
     (stops : isDigit (getD y 0 0) ≡ false) (no-point : eqb (getD y 0 0) 46 ≡ false) where
   unpointed : w ≡ [] → fractionEnd s i ≡ i + length w
   unfolding fractionEnd standsAt
-  unpointed e =
-      rw (here-get s i y (h ∙ ap (λ (x : List ℕ). x ++ y) e), no-point, and-false (ltb i (length s)), e) (omega arith)
+  unpointed e = rw (here-get s i y (h ∙ ap (λ (x : List ℕ). x ++ y) e), no-point, and-false (ltb i (length s)), e) (omega arith)
 
   pointed : w ≡ 46 ∷ f .digits → fractionEnd s i ≡ i + length w
   unfolding fractionEnd
@@ -88,19 +87,13 @@ module _ (s : List ℕ) (i : ℕ) (w y : List ℕ) (h : drop i s ≡ w ++ y) (f 
       (here-run s (i + 1) (f .digits) y (here-next s i (46 ∷ []) (f .digits ++ y) g) isDigit (f .all-digit) stops ∙ omega arith)
 
   pub fraction-read : fractionEnd s i ≡ i + length w
-  fraction-read =
-      ⊎-elim
-      (λ e. unpointed (no-back w f e))
-      (λ e. pointed (dot-back w f e))
-      (f .point-or-none)
+  fraction-read = ⊎-elim (λ e. unpointed (no-back w f e)) (λ e. pointed (dot-back w f e)) (f .point-or-none)
 
   pub fraction-some : 0 < length (f .digits) → hasFraction s i ≡ true
   unfolding hasFraction
   fraction-some k =
-      ⊎-elim
-      (λ e. absurd (omega (arith, k, ap length (e .1))))
-      (λ e. rw fraction-read (lt-ltb 1 (i + length w - i) (omega (arith, k, ap length (dot-back w f e)))))
-      (f .point-or-none)
+      ⊎-elim (λ e. absurd (omega (arith, k, ap length (e .1))))
+      (λ e. rw fraction-read (lt-ltb 1 (i + length w - i) (omega (arith, k, ap length (dot-back w f e))))) (f .point-or-none)
 
 -- what begins behind a mantissa: an E, or what may follow an item
 module _ (p : ℕ → Bool) (capital-e : p 69 ≡ false) (small-e : p 101 ≡ false) (y : List ℕ) (after : p (getD y 0 0) ≡ false) where
@@ -109,18 +102,12 @@ module _ (p : ℕ → Bool) (capital-e : p 69 ≡ false) (small-e : p 101 ≡ fa
   of-e b e = ⊎-elim (λ k. rw (eqb-true b 69 k) capital-e) (λ k. rw (eqb-true b 101 k) small-e) (either (eqb b 69) (eqb b 101) e)
 
   pub power-none : (w : List ℕ) → (w ≡ []) ⊎ Exponent w → p (getD (w ++ y) 0 0) ≡ false
-  power-none w c =
-      ⊎-elim
-      (λ e. rw e after)
-      (λ x. rw (x .parts) (of-e (x .letter) (x .is-e)))
-      c
+  power-none w c = ⊎-elim (λ e. rw e after) (λ x. rw (x .parts) (of-e (x .letter) (x .is-e))) c
 
   pub back-none : p 46 ≡ false → (b w : List ℕ) → Fraction b → (w ≡ []) ⊎ Exponent w → p (getD (b ++ (w ++ y)) 0 0) ≡ false
   back-none q b w f c =
-      ⊎-elim
-      (λ e. ap (λ (x : List ℕ). p (getD (x ++ (w ++ y)) 0 0)) (no-back b f e) ∙ power-none w c)
-      (λ e. ap (λ (x : List ℕ). p (getD (x ++ (w ++ y)) 0 0)) (dot-back b f e) ∙ q)
-      (f .point-or-none)
+      ⊎-elim (λ e. ap (λ (x : List ℕ). p (getD (x ++ (w ++ y)) 0 0)) (no-back b f e) ∙ power-none w c)
+      (λ e. ap (λ (x : List ℕ). p (getD (x ++ (w ++ y)) 0 0)) (dot-back b f e) ∙ q) (f .point-or-none)
 
 module _ (y : List ℕ) (z : Stops y) where
   exponent-read : (s : List ℕ) (i : ℕ) (w : List ℕ) → drop i s ≡ w ++ y → (w ≡ []) ⊎ Exponent w → exponent s i ≡ At (i + length w)
@@ -161,8 +148,7 @@ module _ (s : List ℕ) (at : ℕ) (t y : List ℕ) (h : drop at s ≡ t ++ y) (
   bare : length (n .whole .digits) ≡ 0 → isSign (getD (n .back ++ (n .power ++ y)) 0 0) ≡ false
   unfolding isSign
   bare k =
-      ⊎-elim
-      (λ e. absurd (omega (arith, k, n .some-digit, ap length (e .1))))
+      ⊎-elim (λ e. absurd (omega (arith, k, n .some-digit, ap length (e .1))))
       (λ e. ap (λ (x : List ℕ). isSign (getD (x ++ (n .power ++ y)) 0 0)) (dot-back (n .back) (n .fraction) e))
       (n .fraction .point-or-none)
 
@@ -175,8 +161,7 @@ module _ (s : List ℕ) (at : ℕ) (t y : List ℕ) (h : drop at s ≡ t ++ y) (
 
   some : (hasWhole s at || hasFraction s (at + length (n .front))) ≡ true
   some =
-      ⊎-elim
-      (λ k. rw (whole-some s at (n .front) (n .back ++ (n .power ++ y)) front (n .whole) stops bare k))
+      ⊎-elim (λ k. rw (whole-some s at (n .front) (n .back ++ (n .power ++ y)) front (n .whole) stops bare k))
       (λ k.
       rw (whole-none s at (n .front) (n .back ++ (n .power ++ y)) front (n .whole) stops bare (omega (arith, k)))
       (fraction-some s (at + length (n .front)) (n .back) (n .power ++ y) back (n .fraction) fraction-stops fraction-dot (omega (arith, k, n .some-digit))))

@@ -36,16 +36,12 @@ module _ (s : List ℕ) (at : ℕ) where
   unfolding expressionData bracketed
   expression-form v next h =
       let end : ℕ = runEnd inExpression s at in
-      let c = only-then (ExpressionProgramData v) next (standsAt 41 s end) (followed (ExpressionProgramData (viewOf at end)) SuffixNotAllowed s (end + 1)) InvalidExpression h in
-      let e : viewOf at end ≡ v = ap viewIn (only-followed (ExpressionProgramData v) next (ExpressionProgramData (viewOf at end)) SuffixNotAllowed s (end + 1) (c .1)) in
+      let c = only-then _ next _ _ _ h in
+      let e : viewOf at end ≡ v = ap viewIn (only-followed (ExpressionProgramData v) next (ExpressionProgramData _) _ _ _ (c .1)) in
       let k : end ≤ length s = omega (arith, stands-inside 41 s end (c .0)) in (
         rw (← e),
-        record {
-          forward = rw (← e) (run-from inExpression s at);
-          body = rw (← e, part-shown s at end (run-from inExpression s at) k) (part-run s inExpression at);
-          closing = rw (← e) (c .0);
-        },
-        rw (← e) (ended (ExpressionProgramData v) (ExpressionProgramData (viewOf at end)) SuffixNotAllowed s (end + 1) next (c .1)),
+        record { forward = rw (← e) (run-from inExpression s at); body = rw (← e, part-shown s at end (run-from inExpression s at) k) (part-run s inExpression at); closing = rw (← e) (c .0) },
+        rw (← e) (ended _ _ _ _ _ next (c .1)),
       )
 
   pub expression-read : (t after : List ℕ) → drop at s ≡ t ++ 41 ∷ after → every inExpression t ≡ true → (f : Follows after)
@@ -101,17 +97,13 @@ module _ (q : ℕ) where
         let end : ℕ = at + inString q (drop at s) in
         let c = only-else (StringProgramData v) next (leb (length s) end) (cond (eqb (getD s end 0) q) (followed (StringProgramData (viewOf at end)) SuffixNotAllowed s (end + 1)) (refused InvalidCharacter)) InvalidStringData h in
         let d = only-then (StringProgramData v) next (eqb (getD s end 0) q) (followed (StringProgramData (viewOf at end)) SuffixNotAllowed s (end + 1)) InvalidCharacter (c .1) in
-        let e : viewOf at end ≡ v = ap viewIn (only-followed (StringProgramData v) next (StringProgramData (viewOf at end)) SuffixNotAllowed s (end + 1) (d .1)) in
+        let e : viewOf at end ≡ v = ap viewIn (only-followed (StringProgramData v) next (StringProgramData _) _ _ _ (d .1)) in
         let k : end < length s = leb-false (length s) end (c .0) in
         let m : end - at ≡ inString q (drop at s) = omega arith in
         let l : at ≤ end = omega arith in (
           rw (← e),
-          record {
-            forward = rw (← e) l;
-            body = rw (← e, part-shown s at end l (omega (arith, k)), m) (body (drop at s));
-            closing = rw (← e, lt-ltb end (length s) k) (d .0);
-          },
-          rw (← e) (ended (StringProgramData v) (StringProgramData (viewOf at end)) SuffixNotAllowed s (end + 1) next (d .1)),
+          record { forward = rw (← e) l; body = rw (← e, part-shown s at end l (omega (arith, k)), m) (body (drop at s)); closing = rw (← e, lt-ltb end (length s) k) (d .0) },
+          rw (← e) (ended _ _ _ _ _ next (d .1)),
         )
 
     pub string-read : (t after : List ℕ) → isQuote q ≡ true → drop at s ≡ t ++ q ∷ after → StringBody q t → (f : Follows after)

@@ -24,17 +24,11 @@ module _ (s : List ℕ) (at : ℕ) where
   definite-form : (n : ℕ) (v : View) (next : ℕ) → definite s at n ≡ token (ArbitraryBlockData v) next → BlockForm n s at v × Ended s (v .end) next
   unfolding definite payload
   definite-form n v next h =
-      let m : ℕ = valueOf 10 (take n (drop at s)) in
-      let c = only-then (ArbitraryBlockData v) next (leb (at + n) (length s) && every isDigit (take n (drop at s))) (payload s (at + n) m) InvalidBlockData h in
-      let d = only-then (ArbitraryBlockData v) next (leb (at + n + m) (length s)) (followed (ArbitraryBlockData (viewOf (at + n) (at + n + m))) SuffixNotAllowed s (at + n + m)) InvalidBlockData (c .1) in
-      let e : viewOf (at + n) (at + n + m) ≡ v = ap viewIn (only-followed (ArbitraryBlockData v) next (ArbitraryBlockData (viewOf (at + n) (at + n + m))) SuffixNotAllowed s (at + n + m) (d .1)) in (
-        record {
-          start = rw (← e);
-          all-digit = and-right (leb (at + n) (length s)) (every isDigit (take n (drop at s))) (c .0);
-          as-long = rw (← e);
-          inside = rw (← e) (leb-true (at + n + m) (length s) (d .0));
-        },
-        rw (← e) (ended (ArbitraryBlockData v) (ArbitraryBlockData (viewOf (at + n) (at + n + m))) SuffixNotAllowed s (at + n + m) next (d .1)),
+      let c = only-then _ next _ _ _ h in
+      let d = only-then _ next _ _ _ (c .1) in
+      let e : viewOf (at + n) (at + n + valueOf 10 (take n (drop at s))) ≡ v = ap viewIn (only-followed (ArbitraryBlockData v) next (ArbitraryBlockData _) _ _ _ (d .1)) in (
+        record { start = rw (← e); all-digit = and-right (leb (at + n) (length s)) _ (c .0); as-long = rw (← e); inside = rw (← e) (leb-true _ (length s) (d .0)) },
+        rw (← e) (ended _ _ _ _ _ next (d .1)),
       )
 
   definite-read : (ds t after : List ℕ) → drop at s ≡ ds ++ (t ++ after) → 0 < length ds → every isDigit ds ≡ true → valueOf 10 ds ≡ length t → (f : Follows after)
@@ -55,7 +49,7 @@ module _ (b : ℕ) (s : List ℕ) (at : ℕ) where
   unfolding arbitraryData
   block-form v next z h =
       definite-form s at (b - 48) v next
-      (rw z at (only-then (ArbitraryBlockData v) next (isDigit b) (cond (eqb b 48) (indefinite s at) (definite s at (b - 48))) InvalidBlockData h .1))
+      (rw z at (only-then _ next (isDigit b) (cond (eqb b 48) (indefinite s at) (definite s at (b - 48))) InvalidBlockData h .1))
 
   -- a digit that is no 0 says one digit at least
   some : isDigit b ≡ true → eqb b 48 ≡ false → 0 < b - 48

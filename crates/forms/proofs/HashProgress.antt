@@ -29,8 +29,7 @@ module _ (s : List ℕ) (at : ℕ) where
     unfolding unsignedAt unsignedOf foundAt
     unsigned-found radix =
         by-test (Found at) (ltb (valueOf (baseOf radix) ds) (2 ^ 64))
-        (λ _. by-test (Found at) (eqb (i + length ds) i) (λ _. tt) (λ _. omega (arith, h)))
-        (λ _. tt)
+        (λ _. by-test (Found at) (eqb (i + length ds) i) (λ _. tt) (λ _. omega (arith, h))) (λ _. tt)
       where
         ds : List ℕ
         ds = digits (baseOf radix) (drop i s)
@@ -49,8 +48,7 @@ module _ (s : List ℕ) (at : ℕ) where
     unfolding indefinite
     indefinite-behind =
         by-test (Behind at) (ltb i (length s) && ended′)
-        (λ e. omega (arith, h, ltb-true i (length s) (and-left (ltb i (length s)) ended′ e)))
-        (λ _. tt)
+        (λ e. omega (arith, h, ltb-true i (length s) (and-left (ltb i (length s)) ended′ e))) (λ _. tt)
       where
         ended′ : Bool
         ended′ = is "\n" (getD s (length s - 1) 0)
@@ -68,8 +66,7 @@ module _ (s : List ℕ) (at : ℕ) where
     block-behind : (b : ℕ) → Behind at (arbitraryData b s i)
     unfolding arbitraryData
     block-behind b =
-        by-test (Behind at) (isDigit b)
-        (λ _. by-test (Behind at) (is "0" b) (λ _. indefinite-behind) (λ _. definite-behind _))
+        by-test (Behind at) (isDigit b) (λ _. by-test (Behind at) (is "0" b) (λ _. indefinite-behind) (λ _. definite-behind _))
         (λ _. tt)
 
     hash-by : (b : ℕ) → Behind at (hashBy b s i)

@@ -2,7 +2,7 @@
 use Prim.Native.Nat.{ℕ, _+_, _-_, _≤_, _<_}
 use mathlib.Core.Path.{_≡_, refl, sym, ap, _∙_}
 use mathlib.Core.List.{List, _++_}
-use mathlib.Core.Bool.{Bool, true, false, cond, false≢true}
+use mathlib.Core.Bool.{Bool, true, false, cond}
 use mathlib.Core.Logic.{⊎-elim}
 use native.Mathlib.Nat.{add-zero}
 use native.Mathlib.Omega.{arith}
@@ -14,38 +14,26 @@ use Rattle.kind.specs.Class.{isWhiteSpace}
 use Rattle.kind.proofs.Tests.{less-or-not}
 use Rattle.util.specs.Run.{run, runEnd, every}
 use Rattle.util.proofs.{Every.every-run-front, Every.run-within, Runs.run-from, Runs.run-past}
-use Rattle.token.specs.{View.viewOf, View.partOf, declared.Token.Token, declared.Token.the-variants.ProgramDataSeparator}
+use Rattle.token.specs.{View.viewOf, View.partOf, declared.Token.Token}
 use Rattle.item.specs.Follow.{token, refused, endsData, followed}
 use Rattle.forms.specs.ItemForm.{Ended}
 use Rattle.item.specs.declared.Read.{Read}
 
-abbrev isToken : Read → Bool
-isToken (Read.Token t next) = true
-isToken (Read.Refused e) = false
-
-abbrev pub nextIn : Read → ℕ
-nextIn (Read.Token t next) = next
-nextIn (Read.Refused e) = 0
-
-abbrev pub tokenIn : Read → Token
-tokenIn (Read.Token t next) = t
-tokenIn (Read.Refused e) = ProgramDataSeparator
-
 module _ (t : Token) (next : ℕ) where
+  pub only-token : (r : ErrorCode) → refused r ≡ token t next → ⊥
+  only-token r h = let z : _≡_ {A = ℕ} 0 1 = cc in omega arith
+
   pub only-then : (c : Bool) (x : Read) (e : ErrorCode) → cond c x (refused e) ≡ token t next → (c ≡ true) × (x ≡ token t next)
   only-then true x e h = (refl, h)
-  only-then false x e h = absurd (false≢true (ap isToken h))
+  only-then false x e h = absurd (only-token e h)
 
   pub only-else : (c : Bool) (y : Read) (e : ErrorCode) → cond c (refused e) y ≡ token t next → (c ≡ false) × (y ≡ token t next)
-  only-else true y e h = absurd (false≢true (ap isToken h))
+  only-else true y e h = absurd (only-token e h)
   only-else false y e h = (refl, h)
-
-  pub only-token : (r : ErrorCode) → refused r ≡ token t next → ⊥
-  only-token r h = false≢true (ap isToken h)
 
   pub only-followed : (u : Token) (e : ErrorCode) (s : List ℕ) (end : ℕ) → followed u e s end ≡ token t next → u ≡ t
   unfolding followed
-  only-followed u e s end h = ap tokenIn (only-then (endsData s (runEnd isWhiteSpace s end)) (token u (runEnd isWhiteSpace s end)) e h .1)
+  only-followed u e s end h = cc (only-then (endsData s (runEnd isWhiteSpace s end)) (token u (runEnd isWhiteSpace s end)) e h .1)
 
 -- the part of a text from one place up to another
 abbrev pub part : List ℕ → ℕ → ℕ → List ℕ
@@ -65,9 +53,7 @@ module _ (s : List ℕ) where
   -- the part that a run goes through is of its class
   pub part-run : (p : ℕ → Bool) (a : ℕ) → every p (part s a (runEnd p s a)) ≡ true
   unfolding runEnd
-  part-run p a =
-      let e : a + run p (drop a s) - a ≡ run p (drop a s) = omega arith in
-      rw e (every-run-front p (drop a s))
+  part-run p a = let e : a + run p (drop a s) - a ≡ run p (drop a s) = omega arith in rw e (every-run-front p (drop a s))
 
   pub part-length : (p : ℕ → Bool) (a : ℕ) → length (part s a (runEnd p s a)) ≡ runEnd p s a - a
   unfolding runEnd
@@ -88,20 +74,15 @@ ends-there : (s : List ℕ) (i : ℕ) → endsData s i ≡ true → endsData (dr
 unfolding endsData
 ends-there s i h =
     ⊎-elim
-    (λ k.
-    let l : 0 < length (drop i s) = omega (arith, k, length-drop i s) in
-    rw (lt-leb (length (drop i s)) 0 l, getD-drop i s 0 0, add-zero i) (rw (lt-leb (length s) i k) at h))
-    (λ k.
-    let l : length (drop i s) ≤ 0 = omega (arith, k, length-drop i s) in
-    rw (le-leb (length (drop i s)) 0 l))
-    (less-or-not i (length s))
+    (λ k. rw (lt-leb (length (drop i s)) 0 (omega (arith, k, length-drop i s)), getD-drop i s 0 0, add-zero i) (rw (lt-leb (length s) i k) at h))
+    (λ k. rw (le-leb (length (drop i s)) 0 (omega (arith, k, length-drop i s)))) (less-or-not i (length s))
 
 pub ended : (t u : Token) (e : ErrorCode) (s : List ℕ) (end next : ℕ) → followed u e s end ≡ token t next → Ended s end next
 unfolding followed
 ended t u e s end next h =
     let w : ℕ = runEnd isWhiteSpace s end in
     let c = only-then t next (endsData s w) (token u w) e h in
-    let n : w ≡ next = ap nextIn (c .1) in
+    let n : w ≡ next = cc in
     let k : end ≤ w = run-from isWhiteSpace s end in
     let f : end + (w - end) ≡ w = omega (arith, k) in
     record {

@@ -54,5 +54,4 @@ module _ (s : List ℕ) (at : ℕ) where
       unfolding characterData
       character-behind =
           by-test (Behind at) (leb (runEnd inMnemonic s at - at) 12)
-          (λ _. followed-behind _ _ (runEnd inMnemonic s at) (run-moves inMnemonic s at h e))
-          (λ _. tt)
+          (λ _. followed-behind _ _ (runEnd inMnemonic s at) (run-moves inMnemonic s at h e)) (λ _. tt)

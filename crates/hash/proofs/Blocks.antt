@@ -22,23 +22,17 @@ use Rattle.hash.specs.Block.{payload, definite, indefinite, arbitraryDat
 module _ (s : List ℕ) (start n : ℕ) where
   pub payload-outside′ : length s < start → refused InvalidBlockData ≡ payload s start n
   unfolding payload
-  payload-outside′ h =
-      let k : length s < start + n = omega arith in
-      rw (lt-leb (start + n) (length s) k)
+  payload-outside′ h = let k : length s < start + n = omega arith in rw (lt-leb (start + n) (length s) k)
 
   module _ (h : start ≤ length s) where
     pub payload-short′ : length s - start < n → refused InvalidBlockData ≡ payload s start n
     unfolding payload
-    payload-short′ k =
-        let m : length s < start + n = omega arith in
-        rw (lt-leb (start + n) (length s) m)
+    payload-short′ k = let m : length s < start + n = omega arith in rw (lt-leb (start + n) (length s) m)
 
     pub payload-whole′ : n ≤ length s - start → (end : ℕ) → end ≡ start + n → (r : Read)
         → r ≡ followed (ArbitraryBlockData (viewOf start end)) SuffixNotAllowed s end → r ≡ payload s start n
     unfolding payload
-    payload-whole′ k end e r er =
-        let m : start + n ≤ length s = omega arith in
-        er ∙ rw (e, le-leb (start + n) (length s) m)
+    payload-whole′ k end e r er = let m : start + n ≤ length s = omega arith in er ∙ rw (e, le-leb (start + n) (length s) m)
 
 module _ (s : List ℕ) (at : ℕ) where
   pub rest-none′ : length s ≤ at → refused InvalidBlockData ≡ indefinite s at

@@ -1,6 +1,6 @@
 -- Laws of the length that a definite block says, as the code meets them.
 use Prim.Native.Nat.{ℕ, _+_, _-_, _*_, _^_, _≤_, _<_}
-use mathlib.Core.Path.{_≡_, refl, sym, ap, _∙_}
+use mathlib.Core.Path.{_≡_, refl, sym, _∙_}
 use mathlib.Core.Logic.{⊎-elim}
 use mathlib.Core.List.{List}
 use mathlib.Core.Bool.{Bool, true, false, cond}
@@ -12,7 +12,7 @@ use borrow.Author.Needs.{needs}
 use borrow.Author.Tests.{le-leb, lt-leb, lt-ltb, le-ltb, ne-eqb}
 use Rattle.error.specs.declared.ErrorCode.the-variants.{InvalidBlockData}
 use Rattle.kind.specs.Class.{isDigit}
-use Rattle.kind.proofs.Tests.{less-or-not}
+use Rattle.kind.proofs.Tests.{by-test, less-or-not}
 use Rattle.util.specs.Run.{run, every}
 use Rattle.util.proofs.Every.{every-weaker, every-run, run-every}
 use Rattle.number.specs.{Digit.isDigitOf, Digit.valueOf, declared.Radix.the-variants.Decimal, declared.Unsigned.Unsigned}
@@ -22,36 +22,12 @@ use Rattle.number.proofs.{Digits.decimal, Values.taken}
 use Rattle.item.specs.{Follow.refused, declared.Read.Read}
 use Rattle.hash.specs.Block.{payload, definite}
 
--- what tells two answers apart
-abbrev case : Unsigned → ℕ
-case (Value v end) = 0
-case NoDigit = 1
-case TooLarge = 2
-
-abbrev worth : Unsigned → ℕ
-worth (Value v end) = v
-worth NoDigit = 0
-worth TooLarge = 0
-
-abbrev endOf : Unsigned → ℕ
-endOf (Value v end) = end
-endOf NoDigit = 0
-endOf TooLarge = 0
-
-differ : {A : Type 0} (u w : Unsigned) → u ≡ w → (case u ≡ case w → ⊥) → A
-differ u w e n = absurd (n (ap case e))
-
 -- the place behind a number is that behind its digits
 ends : (base at v end : ℕ) (ds : List ℕ) → Value v end ≡ unsignedOf base at ds → end ≡ at + length ds
 unfolding unsignedOf foundAt
-ends base at v end ds e = go (ltb (valueOf base ds) (2 ^ 64)) (eqb (at + length ds) at) e
-  where
-    go : (small none : Bool)
-        → Value v end ≡ cond small (cond none NoDigit (Value (valueOf base ds) (at + length ds))) TooLarge
-        → end ≡ at + length ds
-    go true true e = differ (Value v end) NoDigit e (λ k. omega arith)
-    go true false e = ap endOf e
-    go false none e = differ (Value v end) TooLarge e (λ k. omega arith)
+ends base at v end ds =
+    by-test (λ (w : Unsigned). Value v end ≡ w → end ≡ at + length ds) (ltb (valueOf base ds) (2 ^ 64))
+    (λ _. by-test (λ (w : Unsigned). Value v end ≡ w → end ≡ at + length ds) (eqb (at + length ds) at) (λ _ e. let z : _≡_ {A = ℕ} 0 1 = cc in absurd (omega arith)) (λ _ e. cc)) (λ _ e. let z : _≡_ {A = ℕ} 0 1 = cc in absurd (omega arith))
 
 module _ (s : List ℕ) (at n : ℕ) (h : at ≤ length s) (k : n ≤ length s - at) where
   -- the n bytes that say the length
@@ -116,50 +92,38 @@ module _ (s : List ℕ) (at n : ℕ) (h : at ≤ length s) (k : n ≤ length s -
   not-digits : every isDigit (take n (drop at s)) ≡ false → refused InvalidBlockData ≡ definite s at n
   not-digits e = sym (by-digits s at n h k false e)
 
-  pub digits-cut′ : (v end : ℕ) → u ≡ Value v end → (end ≡ start → ⊥) → refused InvalidBlockData ≡ definite s at n
-  digits-cut′ v end q away = go (every isDigit (take n (drop at s))) refl
+  -- so it is where it is refused with digits alone, by their value
+  either-way : (every isDigit (take n (drop at s)) ≡ true → valueOf 10 (take n (drop at s)) < 2 ^ 64 → refused InvalidBlockData ≡ definite s at n)
+      → (every isDigit (take n (drop at s)) ≡ true → 2 ^ 64 ≤ valueOf 10 (take n (drop at s)) → refused InvalidBlockData ≡ definite s at n)
+      → refused InvalidBlockData ≡ definite s at n
+  either-way f g = go (every isDigit (take n (drop at s))) refl
     where
       go : (c : Bool) → every isDigit (take n (drop at s)) ≡ c → refused InvalidBlockData ≡ definite s at n
       go false e = not-digits e
-      go true e =
-          ⊎-elim
-          (λ l. absurd (away (ap endOf (sym q ∙ of-small e l) ∙ sym es)))
-          (λ l. differ (Value v end) TooLarge (sym q ∙ of-large e l) (λ z. omega arith))
-          (less-or-not (valueOf 10 (take n (drop at s))) (2 ^ 64))
+      go true e = ⊎-elim (f e) (g e) (less-or-not (valueOf 10 (take n (drop at s))) (2 ^ 64))
+
+  pub digits-cut′ : (v end : ℕ) → u ≡ Value v end → (end ≡ start → ⊥) → refused InvalidBlockData ≡ definite s at n
+  digits-cut′ v end q away = either-way (λ e l. absurd (away (cc (of-small e l)))) (λ e l. let z : _≡_ {A = ℕ} 0 1 = cc (of-large e l) in absurd (omega arith))
 
   pub digits-none′ : u ≡ NoDigit → refused InvalidBlockData ≡ definite s at n
-  digits-none′ q = go (every isDigit (take n (drop at s))) refl
-    where
-      go : (c : Bool) → every isDigit (take n (drop at s)) ≡ c → refused InvalidBlockData ≡ definite s at n
-      go false e = not-digits e
-      go true e =
-          ⊎-elim
-          (λ l. differ NoDigit (Value (valueOf 10 (take n (drop at s))) (at + n)) (sym q ∙ of-small e l) (λ z. omega arith))
-          (λ l. differ NoDigit TooLarge (sym q ∙ of-large e l) (λ z. omega arith))
-          (less-or-not (valueOf 10 (take n (drop at s))) (2 ^ 64))
+  digits-none′ q = either-way (λ e l. let z : _≡_ {A = ℕ} 0 1 = cc (of-small e l) in absurd (omega arith)) (λ e l. let z : _≡_ {A = ℕ} 0 1 = cc (of-large e l) in absurd (omega arith))
 
   pub digits-large′ : length s * 1 < 2 ^ 63 → u ≡ TooLarge → refused InvalidBlockData ≡ definite s at n
   unfolding payload
-  digits-large′ room q = go (every isDigit (take n (drop at s))) refl
-    where
-      go : (c : Bool) → every isDigit (take n (drop at s)) ≡ c → refused InvalidBlockData ≡ definite s at n
-      go false e = not-digits e
-      go true e =
-          ⊎-elim
-          (λ l. differ TooLarge (Value (valueOf 10 (take n (drop at s))) (at + n)) (sym q ∙ of-small e l) (λ z. omega arith))
-          (λ l.
-          let over : length s < at + n + valueOf 10 (take n (drop at s)) = omega arith in
-          sym (by-digits s at n h k true e ∙ rw (lt-leb (at + n + valueOf 10 (take n (drop at s))) (length s) over)))
-          (less-or-not (valueOf 10 (take n (drop at s))) (2 ^ 64))
+  digits-large′ room q =
+      either-way (λ e l. let z : _≡_ {A = ℕ} 0 1 = cc (of-small e l) in absurd (omega arith))
+      (λ e l.
+      let over : length s < at + n + valueOf 10 (take n (drop at s)) = omega arith in
+      sym (by-digits s at n h k true e ∙ rw (lt-leb (at + n + valueOf 10 (take n (drop at s))) (length s) over)))
 
   pub digits-whole′ : (v end : ℕ) → u ≡ Value v end → end ≡ start → (r : Read) → r ≡ payload s start v → r ≡ definite s at n
   digits-whole′ v end q ee r er =
       let e : every isDigit (take n (drop at s)) ≡ true = only-digits s at n h k v end (sym q ∙ told) (ee ∙ es) in
       ⊎-elim
       (λ l.
-      let w : v ≡ valueOf 10 (take n (drop at s)) = ap worth (sym q ∙ of-small e l) in
+      let w : v ≡ valueOf 10 (take n (drop at s)) = cc (of-small e l) in
       er ∙ sym (by-digits s at n h k true e ∙ rw (es, w)))
-      (λ l. differ (Value v end) TooLarge (sym q ∙ of-large e l) (λ z. omega arith))
+      (λ l. let z : _≡_ {A = ℕ} 0 1 = cc (of-large e l) in absurd (omega arith))
       (less-or-not (valueOf 10 (take n (drop at s))) (2 ^ 64))
 
 module _ (s : List ℕ) (at n : ℕ) where

@@ -2,14 +2,14 @@
 use Prim.Native.Nat.{ℕ, _+_, _≤_, _<_}
 use mathlib.Core.Path.{_≡_, refl, sym, ap, _∙_}
 use mathlib.Core.List.{List}
-use mathlib.Core.Logic.{_⊎_, inl, inr}
-use mathlib.Core.Bool.{Bool, true, false, cond, _||_, false≢true}
+use mathlib.Core.Logic.{⊎-elim}
+use mathlib.Core.Bool.{Bool, true, false}
 use lib.Dec.{eqb, leb}
 use lib.ListN.{length, getD}
 use borrow.Author.Needs.{needs}
 use borrow.Author.Tests.{le-leb, leb-true, leb-false, eqb-true}
 use Rattle.kind.specs.Class.{isWhiteSpace}
-use Rattle.kind.proofs.Tests.{or-right, either}
+use Rattle.kind.proofs.Tests.{by-test, clash, or-right, either}
 use Rattle.util.specs.Run.{runEnd, standsAt}
 use Rattle.util.proofs.Runs.{run-more}
 use Rattle.separator.specs.Separator.{followsQuery, questionTo}
@@ -63,11 +63,8 @@ module _ (s : List ℕ) (p : ℕ) (common : Bool) where
   query-ahead : standsAt 63 s p ≡ true → followsQuery s (p + 1) ≡ true → seenWith Ahead.Query (stateOf (p + 1) false common) ≡ aheadAt s p common
   unfolding questionTo
   query-ahead e f =
-      question-seen′ s (stateOf p true common) _ (inside s p 63 e) (pass.To (p + 1)) (there s p 63 e) go
+      question-seen′ s (stateOf p true common) _ (inside s p 63 e) (pass.To (p + 1)) (there s p 63 e) (rw f)
       (passed-to′ s (stateOf p true common) _ (pass.To (p + 1)) HeaderQuerySuffix false (p + 1) refl (taken-is′ HeaderQuerySuffix (p + 1) false common Ahead.Query refl))
-    where
-      go : pass.To (p + 1) ≡ questionTo s (p + 1) true
-      go = rw f
 
   module _ (w kept : ℕ) {x : Stop} {n : ℕ} where
     plain-found : Halted s p x n → Header.Found (commandNumber w) false kept x n ≡ leafAnswer s w kept (aheadAt s p common)
@@ -117,18 +114,13 @@ module _ (s : List ℕ) (p : ℕ) (common : Bool) where
 
   pub ends-so : endsAt s p ≡ true → isEnding (aheadAt s p common .ahead) ≡ true
   unfolding endsAt halts
-  ends-so e = go (leb (length s) at) refl e
-    where
-      at : ℕ
-      at = afterByte 63 s p
-
-      byte : at < length s → (eqb (getD s at 0) 32 ≡ true) ⊎ (eqb (getD s at 0) 59 ≡ true) → isEnding (aheadAt s p common .ahead) ≡ true
-      byte l (inl f) = is-ending (standsAt 63 s p) refl (space l (eqb-true (getD s at 0) 32 f))
-      byte l (inr f) = is-ending (standsAt 63 s p) refl (semicolon l (eqb-true (getD s at 0) 59 f))
-
-      go : (b : Bool) → leb (length s) at ≡ b → cond b true (eqb (getD s at 0) 32 || eqb (getD s at 0) 59) ≡ true → isEnding (aheadAt s p common .ahead) ≡ true
-      go true l h = is-ending (standsAt 63 s p) refl (text (leb-true (length s) at l))
-      go false l h = byte (leb-false (length s) at l) (either (eqb (getD s at 0) 32) (eqb (getD s at 0) 59) h)
+  ends-so =
+      by-test (λ (b : Bool). b ≡ true → isEnding (aheadAt s p common .ahead) ≡ true) (leb (length s) (afterByte 63 s p))
+      (λ l _. is-ending (standsAt 63 s p) refl (text (leb-true (length s) (afterByte 63 s p) l)))
+      (λ l h.
+      let k = leb-false (length s) (afterByte 63 s p) l in
+      ⊎-elim (λ f. is-ending (standsAt 63 s p) refl (space k (eqb-true _ 32 f))) (λ f. is-ending (standsAt 63 s p) refl (semicolon k (eqb-true _ 59 f)))
+      (either (eqb (getD s (afterByte 63 s p) 0) 32) (eqb (getD s (afterByte 63 s p) 0) 59) h))
 
 -- what ends a header ends it at a branch, and where there is no default leaf it is -113
 
@@ -139,13 +131,13 @@ ending-turn s y e = go (y .ahead) e
     go : (a : Ahead) → isEnding a ≡ true → atBranch s (y .state) a ≡ turn.Stop
     go (Ahead.Stop x) f = refl
     go Ahead.Query f = refl
-    go (Ahead.Word w) f = absurd (false≢true f)
-    go Ahead.Colon f = absurd (false≢true f)
-    go (Ahead.Refused c) f = absurd (false≢true f)
+    go (Ahead.Word w) f = clash f refl
+    go Ahead.Colon f = clash f refl
+    go (Ahead.Refused c) f = clash f refl
 
 pub ending-refused : (a : Ahead) → isEnding a ≡ true → undefined ≡ refusedBy a
 ending-refused (Ahead.Stop x) f = refl
 ending-refused Ahead.Query f = refl
 ending-refused (Ahead.Word w) f = refl
-ending-refused Ahead.Colon f = absurd (false≢true f)
-ending-refused (Ahead.Refused c) f = absurd (false≢true f)
+ending-refused Ahead.Colon f = clash f refl
+ending-refused (Ahead.Refused c) f = clash f refl

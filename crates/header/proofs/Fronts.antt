@@ -1,9 +1,9 @@
 -- Laws of the front of a header, as the code meets them.
 use Prim.Native.Nat.{ℕ, zero, suc, _+_, _-_, _≤_, _<_, zero-le, suc-le-suc}
 use mathlib.Core.Path.{_≡_, refl, sym, ap, subst, _∙_}
-use mathlib.Core.Logic.{_⊎_, inl, inr}
+use mathlib.Core.Logic.{⊎-elim}
 use mathlib.Core.List.{List, [], _∷_}
-use mathlib.Core.Bool.{Bool, true, false, not, cond, _&&_, _||_, false≢true}
+use mathlib.Core.Bool.{Bool, true, false, not, _&&_, _||_}
 use native.Mathlib.Omega.{arith}
 use lib.Dec.{leb}
 use lib.ListN.{length, getD, take, drop}
@@ -11,12 +11,12 @@ use borrow.Author.Needs.{needs}
 use borrow.Author.Tests.{le-leb, not-true, not-false}
 use Rattle.error.specs.declared.ErrorCode.{ErrorCode}
 use Rattle.kind.specs.Class.{isLetter, isCapital, isSmall, inMnemonic}
-use Rattle.kind.proofs.Tests.{by-test, clash, less-or-not}
-use Rattle.util.specs.Run.{runEnd, standsAt}
+use Rattle.kind.proofs.Tests.{both-ways, by-test, clash, less-or-not}
+use Rattle.util.specs.Run.{standsAt}
 use Rattle.node.specs.{Word.isBranch, Tree.branch}
 use Rattle.node.proofs.Laws.{past-table}
-use Rattle.token.specs.{View.partOf, View.viewOf, declared.View.View, declared.Token.Token, declared.Token.the-variants.ProgramMnemonic}
-use Rattle.item.specs.{Word.starEnd, Word.mnemonic, Follow.token, Follow.refused, declared.Read.Read}
+use Rattle.token.specs.{View.partOf, View.viewOf, declared.View.View, declared.Token.Token}
+use Rattle.item.specs.{Word.starEnd, Word.mnemonic, Follow.refused, declared.Read.Read}
 use Rattle.forms.proofs.ItemAccepted.{run-most}
 use Rattle.tokenizer.specs.{Step.stateOf, declared.State.State}
 use Rattle.ahead.specs.{Seen.seenWith, Seen.seenAt, declared.Stop.Stop, declared.Ahead.Ahead, declared.Seen.Seen}
@@ -26,7 +26,7 @@ use Rattle.header.specs.Header as headers
 use Rattle.header.specs.Internal.{aheadAt, begins, goesOn, frontOf, keptBy, refusedBy, bare, Arrives, arrives, strays, RootLeaf, root-leaf, root-branch, Empty, found, not-found, Otherwise}
 use Rattle.header.specs.{declared.Front.Front, declared.Header.Header}
 use Rattle.header.proofs.Places.{inside, there, stands, letter-there}
-use Rattle.header.proofs.Mnemonics.{isToken, met, refused-ahead, word-ahead, letter-next, colon-ahead, star-refused, star-word}
+use Rattle.header.proofs.Mnemonics.{mnemonic-next, met, refused-ahead, word-ahead, letter-next, colon-ahead, star-refused, star-word}
 use Rattle.header.proofs.{Settled.settles, Settled.lost, Walks.some-byte, Once.one-reading}
 use Rattle.header.proofs.Inverse.{no-mnemonic, last-colon, colon-place}
 
@@ -60,29 +60,23 @@ kept-refusal b Ahead.Colon = refl
 
 first-of : (n p : ℕ) (s : List ℕ) → standsAt 42 (take n (drop p s)) 0 ≡ true → getD s p 0 ≡ 42
 unfolding standsAt
-first-of zero p s h = absurd (false≢true h)
-first-of (suc n) zero [] h = absurd (false≢true h)
+first-of zero p s h = clash h refl
+first-of (suc n) zero [] h = clash h refl
 first-of (suc n) zero (c ∷ s) h = there (c ∷ take n s) 0 42 h
-first-of (suc n) (suc p) [] h = absurd (false≢true h)
+first-of (suc n) (suc p) [] h = clash h refl
 first-of (suc n) (suc p) (c ∷ s) h = first-of (suc n) p s h
 
 no-star : (s : List ℕ) (p : ℕ) → isLetter (getD s p 0) ≡ true → (e : ℕ) → standsAt 42 (partOf s (viewOf p e)) 0 ≡ false
 unfolding partOf standsAt isLetter isCapital isSmall
-no-star s p l e = by-fit (leb e (length s) && leb p e)
-  where
-    by-star : (c : Bool) → standsAt 42 (take (e - p) (drop p s)) 0 ≡ c → standsAt 42 (take (e - p) (drop p s)) 0 ≡ false
-    by-star true h = let z = first-of (e - p) p s h in absurd (false≢true (rw z at l))
-    by-star false h = h
-
-    by-fit : (c : Bool) → standsAt 42 (cond c (take (e - p) (drop p s)) []) 0 ≡ false
-    by-fit true = by-star (standsAt 42 (take (e - p) (drop p s)) 0) refl
-    by-fit false = refl
+no-star s p l e =
+    by-test (λ (x : List ℕ). standsAt 42 x 0 ≡ false) (leb e (length s) && leb p e)
+    (λ _. both-ways (standsAt 42 (take (e - p) (drop p s)) 0) false (λ h. rw (first-of (e - p) p s h) at l) (λ h. clash h refl)) (λ _. refl)
 
 -- and one that a star begins has it
 
 star-first : (n p : ℕ) (s : List ℕ) → standsAt 42 s p ≡ true → standsAt 42 (take (suc n) (drop p s)) 0 ≡ true
 unfolding standsAt
-star-first n zero [] h = absurd (false≢true h)
+star-first n zero [] h = clash h refl
 star-first n zero (c ∷ s) h = stands (c ∷ take n s) 0 42 (suc-le-suc zero-le) (there (c ∷ s) 0 42 h)
 star-first n (suc p) [] h = absurd (omega (arith, inside [] (suc p) 42 h))
 star-first n (suc p) (c ∷ s) h = star-first n p s (stands s p 42 (omega (arith, inside (c ∷ s) (suc p) 42 h)) (there (c ∷ s) (suc p) 42 h))
@@ -97,20 +91,10 @@ module _ (s : List ℕ) (p : ℕ) (w : standsAt 42 s p ≡ true) where
       go (suc n) z = star-first n p s w
 
   star-inside : (k : Token) (next : ℕ) → mnemonic s p ≡ Read.Token k next → next ≤ length s
-  unfolding mnemonic starEnd
-  star-inside k next e = go (leb (runEnd inMnemonic s (starEnd s p) - p) 12) e
-    where
-      nextIn : Read → ℕ
-      nextIn (Read.Token k n) = n
-      nextIn (Read.Refused c) = 0
-
-      high : runEnd inMnemonic s (starEnd s p) ≤ length s
-      high = rw w (run-most s inMnemonic (p + 1) (omega (arith, inside s p 42 w)))
-
-      go : (b : Bool) → cond b (token (ProgramMnemonic (viewOf p (runEnd inMnemonic s (starEnd s p)))) (runEnd inMnemonic s (starEnd s p))) (refused ErrorCode.ProgramMnemonicTooLong) ≡ Read.Token k next
-          → next ≤ length s
-      go true f = rw (← ap nextIn f) high
-      go false f = absurd (false≢true (ap isToken f))
+  unfolding starEnd
+  star-inside k next e =
+      let z = mnemonic-next s p k next e .0 in
+      rw (← z, w) (run-most s inMnemonic (p + 1) (omega (arith, inside s p 42 w)))
 
 -- a token that is refused refuses the header, at a leaf too
 from-refused : (t names s : List ℕ) (h n : ℕ) (seen : Seen) (e : ErrorCode) → seen .ahead ≡ Ahead.Refused e → Reads t names s h n seen (Header.Refused e)
@@ -280,9 +264,9 @@ module _ (s : List ℕ) (at : ℕ) (e : bare s at ≡ true) where
   bare-parts = go (letterAt s at) (goesOn s at) (standsAt 42 s at) e
     where
       go : (x y z : Bool) → not (x || (y || z)) ≡ true → (x ≡ false) × (y ≡ false) × (z ≡ false)
-      go true y z f = absurd (false≢true f)
-      go false true z f = absurd (false≢true f)
-      go false false true f = absurd (false≢true f)
+      go true y z f = clash f refl
+      go false true z f = clash f refl
+      go false false true f = clash f refl
       go false false false f = (refl, refl, refl)
 
   module _ (t : List ℕ) (x : Seen) (ex : x ≡ aheadAt s at false) where
@@ -322,11 +306,7 @@ module _ (s : List ℕ) (at : ℕ) (e : bare s at ≡ true) where
           seen = seenWith (Ahead.Stop Stop.Text) (stateOf p true false)
 
           some : b < length t
-          some = by (less-or-not b (length t))
-            where
-              by : (b < length t) ⊎ (length t ≤ b) → b < length t
-              by (inl l) = l
-              by (inr l) = clash m (past-table t b l)
+          some = ⊎-elim (λ l. l) (λ l. clash m (past-table t b l)) (less-or-not b (length t))
 
           nowhere : {k : ℕ} → k ≡ length t → RootLeaf t k → Reads t names s 0 0 seen undefined
           nowhere l (root-leaf i) = absurd (omega (arith, some))

@@ -2,16 +2,17 @@
 use Prim.Native.Nat.{ℕ, _+_, _-_}
 use mathlib.Core.Path.{_≡_, refl, sym, ap, _∙_}
 use mathlib.Core.List.{List}
-use mathlib.Core.Bool.{Bool, true, false, cond, _&&_, false≢true}
+use mathlib.Core.Bool.{Bool, true, false, and-false}
+use native.Mathlib.Omega.{arith}
 use lib.Dec.{leb}
 use lib.ListN.{length, getD}
 use Rattle.error.specs.declared.ErrorCode.{ErrorCode}
 use Rattle.kind.specs.Class.{isLetter, inMnemonic}
-use Rattle.kind.proofs.Tests.{and-left, and-right, or-right}
+use Rattle.kind.proofs.Tests.{by-test, and-left, and-right, or-right}
 use Rattle.util.specs.Run.{runEnd, standsAt}
 use Rattle.token.specs.{View.viewOf, declared.Token.Token}
 use Rattle.token.specs.declared.Token.the-variants.{ProgramMnemonic, HeaderMnemonicSeparator}
-use Rattle.item.specs.{Follow.token, Follow.refused, Word.starEnd, Word.mnemonic, declared.Read.Read}
+use Rattle.item.specs.{Word.starEnd, Word.mnemonic, declared.Read.Read}
 use Rattle.separator.specs.Separator.{followsColon, colonTo}
 use Rattle.separator.specs.declared.Pass.the-variants as pass
 use Rattle.tokenizer.specs.Step.{stateOf, readAs}
@@ -25,27 +26,16 @@ use Rattle.header.specs.Internal.{aheadAt, begins, goesOn}
 use Rattle.header.proofs.Looks.{taken-is′, refusal-is′, read-token′, read-refused′, passed-to′, passed-refused′, letter-seen′, star-seen′, colon-seen′}
 use Rattle.header.proofs.Places.{inside, there, letter-there}
 
-abbrev pub tokenIn : Read → Token
-tokenIn (Read.Token t next) = t
-tokenIn (Read.Refused e) = HeaderMnemonicSeparator
-
-abbrev pub isToken : Read → Bool
-isToken (Read.Token t next) = true
-isToken (Read.Refused e) = false
-
--- what is read as a mnemonic is the view from its place on
-pub mnemonic-read : (s : List ℕ) (p : ℕ) (t : Token) (next : ℕ) → mnemonic s p ≡ Read.Token t next → ProgramMnemonic (viewOf p next) ≡ t
+-- what is read as a mnemonic ends where it does, and is the view from its place on
+pub mnemonic-next : (s : List ℕ) (p : ℕ) (t : Token) (next : ℕ) → mnemonic s p ≡ Read.Token t next
+    → (runEnd inMnemonic s (starEnd s p) ≡ next) × (ProgramMnemonic (viewOf p next) ≡ t)
 unfolding mnemonic
-mnemonic-read s p t next e = go (leb (runEnd inMnemonic s (starEnd s p) - p) 12) e
-  where
-    nextIn : Read → ℕ
-    nextIn (Read.Token k n) = n
-    nextIn (Read.Refused c) = 0
+mnemonic-next s p t next =
+    by-test (λ (r : Read). r ≡ Read.Token t next → (runEnd inMnemonic s (starEnd s p) ≡ next) × (ProgramMnemonic (viewOf p next) ≡ t))
+    (leb (runEnd inMnemonic s (starEnd s p) - p) 12) (λ _ f. (cc, cc)) (λ _ f. let z : _≡_ {A = ℕ} 0 1 = cc in absurd (omega arith))
 
-    go : (b : Bool) → cond b (token (ProgramMnemonic (viewOf p (runEnd inMnemonic s (starEnd s p)))) (runEnd inMnemonic s (starEnd s p))) (refused ErrorCode.ProgramMnemonicTooLong) ≡ Read.Token t next
-        → ProgramMnemonic (viewOf p next) ≡ t
-    go true f = ap (λ (n : ℕ). ProgramMnemonic (viewOf p n)) (sym (ap nextIn f)) ∙ ap tokenIn f
-    go false f = absurd (false≢true (ap isToken f))
+pub mnemonic-read : (s : List ℕ) (p : ℕ) (t : Token) (next : ℕ) → mnemonic s p ≡ Read.Token t next → ProgramMnemonic (viewOf p next) ≡ t
+mnemonic-read s p t next e = mnemonic-next s p t next e .1
 
 -- the step at a place is the reading of a mnemonic
 abbrev pub Met : List ℕ → ℕ → Bool → Type 0
@@ -140,9 +130,5 @@ pub colon-refused : (s : List ℕ) (p : ℕ) → goesOn s p ≡ true → seenWit
 unfolding colonTo
 colon-refused s p g =
     let x : Seen = seenWith (ahead.Refused ErrorCode.InvalidSeparator) (stateOf (length s) true true) in
-    colon-seen′ s (stateOf p true true) x (inside s p 58 (colon-there s p g)) (pass.Refused ErrorCode.InvalidSeparator) (there s p 58 (colon-there s p g)) (go (followsColon s (p + 1)))
+    colon-seen′ s (stateOf p true true) x (inside s p 58 (colon-there s p g)) (pass.Refused ErrorCode.InvalidSeparator) (there s p 58 (colon-there s p g)) (rw (and-false (followsColon s (p + 1))))
     (passed-refused′ s (stateOf p true true) x (pass.Refused ErrorCode.InvalidSeparator) HeaderMnemonicSeparator true ErrorCode.InvalidSeparator refl (refusal-is′ s (stateOf p true true) ErrorCode.InvalidSeparator))
-  where
-    go : (b : Bool) → pass.Refused ErrorCode.InvalidSeparator ≡ cond (b && false) (pass.To (p + 1)) (pass.Refused ErrorCode.InvalidSeparator)
-    go true = refl
-    go false = refl

@@ -2,13 +2,13 @@
 use Prim.Native.Nat.{ℕ, _+_, _≤_, _<_}
 use mathlib.Core.Path.{_≡_, refl, sym, ap, _∙_}
 use mathlib.Core.List.{List}
-use mathlib.Core.Bool.{Bool, true, false, cond, false≢true}
+use mathlib.Core.Bool.{Bool, true, false}
 use lib.Dec.{eqb, leb, ltb}
 use lib.ListN.{length, getD}
 use borrow.Author.Needs.{needs}
 use borrow.Author.Tests.{le-leb, lt-leb, leb-false, lt-ltb, le-ltb, eq-eqb, ne-eqb, ltb-true, eqb-true}
 use Rattle.kind.specs.Class.{isLetter}
-use Rattle.kind.proofs.Tests.{and-left, and-right}
+use Rattle.kind.proofs.Tests.{by-test, clash, and-left, and-right}
 use Rattle.util.specs.Run.{standsAt}
 use Rattle.spoken.specs.Spoken.{letterAt}
 use Rattle.header.specs.Internal.{afterByte, goesOn, halts, endsAt, frontOf, keptBy}
@@ -49,11 +49,9 @@ pub ruleset after-laws = (needs, after-past′, after-it′, not-after′)
 -- a letter at a place
 pub letter-there : (s : List ℕ) (p : ℕ) → letterAt s p ≡ true → (p < length s) × (isLetter (getD s p 0) ≡ true)
 unfolding letterAt
-letter-there s p h = go (leb (length s) p) refl h
-  where
-    go : (b : Bool) → leb (length s) p ≡ b → cond b false (isLetter (getD s p 0)) ≡ true → (p < length s) × (isLetter (getD s p 0) ≡ true)
-    go true e f = absurd (false≢true f)
-    go false e f = (leb-false (length s) p e, f)
+letter-there s p =
+    by-test (λ (b : Bool). b ≡ true → (p < length s) × (isLetter (getD s p 0) ≡ true)) (leb (length s) p) (λ _ f. clash f refl)
+    (λ e f. (leb-false (length s) p e, f))
 
 -- a colon and a letter
 

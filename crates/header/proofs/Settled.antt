@@ -1,7 +1,7 @@
 -- Laws of the leaf that is reached unsaid, as the code meets them; and what it is to a header.
 use Prim.Native.Nat.{ℕ, _-_, _<_}
 use mathlib.Core.Path.{_≡_, refl, sym, subst, _∙_}
-use mathlib.Core.Logic.{_⊎_, inl, inr}
+use mathlib.Core.Logic.{_⊎_, inl, inr, ⊎-elim}
 use mathlib.Core.List.{List}
 use mathlib.Core.Bool.{Bool, true, false, not}
 use native.Mathlib.Omega.{arith}
@@ -83,13 +83,9 @@ module _ (t : List ℕ) (p k : ℕ) (z : RootLeaf t k) where
     pub root-in′ : k < length t
     root-in′ = go z e
       where
-        within : {k : ℕ} → (k < length t) ⊎ (k ≡ length t) → (k ≡ length t → ⊥) → k < length t
-        within (inl l) n = l
-        within (inr q) n = absurd (n q)
-
         go : {k : ℕ} → RootLeaf t k → (k ≡ length t → ⊥) → k < length t
         go (root-leaf m) n = omega (arith, n)
-        go (root-branch m z) n = within (settled-in z) n
+        go (root-branch m z) n = ⊎-elim (λ l. l) (λ q. absurd (n q)) (settled-in z)
 
     pub found′ : (c : ℕ) → c ≡ commandNumber (getD t k 0) → Empty t p (header.Found c false 0 stop.Text p)
     found′ c ec = rw ec (found z root-in′)

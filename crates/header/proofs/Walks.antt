@@ -3,7 +3,7 @@ use Prim.Native.Nat.{ℕ, _+_, _-_, _<_}
 use mathlib.Core.Path.{_≡_, refl, sym, ap, subst, _∙_}
 use mathlib.Core.Logic.{_⊎_, inl, inr}
 use mathlib.Core.List.{List}
-use mathlib.Core.Bool.{Bool, true, false, not, cond, _&&_, _||_, false≢true, true≢false}
+use mathlib.Core.Bool.{Bool, true, false, not, cond, _&&_, _||_, true≢false}
 use native.Mathlib.Omega.{arith}
 use lib.Dec.{leb, ltb}
 use lib.ListN.{length, getD}
@@ -11,7 +11,7 @@ use borrow.Author.Needs.{needs}
 use borrow.Author.Tests.{not-true, not-false, leb-false, ltb-true, lt-ltb}
 use Rattle.error.specs.declared.ErrorCode.{ErrorCode}
 use Rattle.kind.specs.Class.{isLetter, isDigit, is, inMnemonic}
-use Rattle.kind.proofs.Tests.{clash, and-left, and-right, or-left}
+use Rattle.kind.proofs.Tests.{both-ways, clash, and-left, and-right, or-left}
 use Rattle.util.specs.Run.{runEnd, standsAt}
 use Rattle.util.proofs.Runs.{run-again, run-more, run-from}
 use Rattle.mnemonic.specs.Mnemonic.{matches}
@@ -20,33 +20,25 @@ use Rattle.branch.specs.Children.{unsaidIn, Picks, PicksIn, first-in, none-in}
 use Rattle.branch.specs.{Block.childrenOf, declared.Block.Block, declared.Pick.Pick}
 use Rattle.branch.proofs.Picks.{deeper}
 use Rattle.token.specs.{View.partOf, View.viewOf, declared.Token.Token, declared.Token.the-variants.ProgramMnemonic}
-use Rattle.item.specs.{Follow.token, Follow.refused, Word.starEnd, Word.mnemonic, declared.Read.Read}
+use Rattle.item.specs.{Follow.refused, Word.starEnd, Word.mnemonic, declared.Read.Read}
 use Rattle.forms.proofs.ItemProgress.{header-behind, common-behind}
 use Rattle.tokenizer.specs.Step.{stateOf}
 use Rattle.ahead.specs.{Seen.seenWith, declared.Ahead.Ahead, declared.Seen.Seen}
 use Rattle.spoken.specs.Spoken.{letterAt, spelledAs, spelledAt, spokenBy, Spells, first-spelled, none-spelled}
 use Rattle.spoken.specs.{declared.Spelled.Spelled, declared.Spoken.Spoken}
-use Rattle.header.specs.{Turn.Turn, declared.Header.Header}
+use Rattle.header.specs.{declared.Header.Header}
 use Rattle.header.specs.Turn as turn
 use Rattle.header.specs.Header.{undefined, leafAnswer, atBranch, behindColon, turnOf, Reads, leaf, said, unsaid, unknown, ended, nowhere}
 use Rattle.header.specs.Header as headers
 use Rattle.header.specs.Internal.{aheadAt, begins, goesOn, afterByte, endsAt, isEnding, refusedBy, Settles, Arrives, arrives, strays}
 use Rattle.header.proofs.Places.{inside, there, letter-there, after-colon}
-use Rattle.header.proofs.Mnemonics.{mnemonic-read, isToken, met, refused-ahead, word-ahead, turn-refused, turn-word, colon-there, letter-next, colon-turn, star-turn, colon-refused}
+use Rattle.header.proofs.Mnemonics.{mnemonic-next, mnemonic-read, met, refused-ahead, word-ahead, turn-refused, turn-word, colon-there, letter-next, colon-turn, star-turn, colon-refused}
 use Rattle.header.proofs.Endings.{ends-so, ending-turn, ending-refused}
 use Rattle.header.proofs.Settled.{picked, settled-in, settles, lost}
 use Rattle.header.proofs.Inverse.{no-mnemonic, last-colon, not-common}
 use Rattle.header.proofs.Once.{one-reading}
 
 -- what the matcher says of a name
-
-isTo : Spelled → Bool
-isTo (Spelled.To n) = true
-isTo Spelled.Not = false
-
-endOf : Spelled → ℕ
-endOf (Spelled.To n) = n
-endOf Spelled.Not = 0
 
 -- a mnemonic that spells a name is read up to there, has a character at least, and matches the name
 pub record Told (x s : List ℕ) (at next : ℕ) : Type 0 where
@@ -55,15 +47,15 @@ pub record Told (x s : List ℕ) (at next : ℕ) : Type 0 where
   pub match : matches x (partOf s (viewOf at next)) ≡ true
 
 spells-so : (x s : List ℕ) (at next : ℕ) → spelledAt x s at ≡ Spelled.To next → Told x s at next
-unfolding spelledAt isTo endOf
+unfolding spelledAt
 spells-so x s at next e = go (mnemonic s at) refl e
   where
     go : (r : Read) → mnemonic s at ≡ r → spelledAs x s at r ≡ Spelled.To next → Told x s at next
-    go (Read.Refused c) q f = absurd (false≢true (ap isTo f))
+    go (Read.Refused c) q f = let z : _≡_ {A = ℕ} 0 1 = cc in absurd (omega arith)
     go (Read.Token k n) q f = by (ltb at n && matches x (partOf s (viewOf at n))) refl f
       where
         by : (b : Bool) → (ltb at n && matches x (partOf s (viewOf at n))) ≡ b → cond b (Spelled.To n) Spelled.Not ≡ Spelled.To next → Told x s at next
-        by false g i = absurd (false≢true (ap isTo i))
+        by false g i = let z : _≡_ {A = ℕ} 0 1 = cc in absurd (omega arith)
         by true g i =
             let so : Told x s at n =
             record {
@@ -71,16 +63,16 @@ spells-so x s at next e = go (mnemonic s at) refl e
               some = ltb-true at n (and-left (ltb at n) (matches x (partOf s (viewOf at n))) g);
               match = and-right (ltb at n) (matches x (partOf s (viewOf at n))) g;
             } in
-            rw (ap endOf i) at so
+            let j : n ≡ next = cc in rw j at so
 
 -- and one that was read, and does not spell a name, does not match it
 not-spells : (x s : List ℕ) (at next : ℕ) (k : Token) → mnemonic s at ≡ Read.Token k next → at < next → spelledAt x s at ≡ Spelled.Not → matches x (partOf s (viewOf at next)) ≡ false
-unfolding spelledAt isTo
+unfolding spelledAt
 not-spells x s at next k q l e = go (matches x (partOf s (viewOf at next))) (ap (spelledAs x s at) (sym q) ∙ e)
   where
     go : (b : Bool) → cond (ltb at next && b) (Spelled.To next) Spelled.Not ≡ Spelled.Not → b ≡ false
     go false f = refl
-    go true f = absurd (false≢true (sym (ap isTo f) ∙ rw (lt-ltb at next l)))
+    go true f = let f = rw (lt-ltb at next l) at f in let z : _≡_ {A = ℕ} 0 1 = cc in absurd (omega arith)
 
 -- a mnemonic has a character at least
 pub some-byte : (s : List ℕ) (at : ℕ) (c : Bool) → begins c s at ≡ true → (k : Token) (next : ℕ) → mnemonic s at ≡ Read.Token k next → at < next
@@ -92,53 +84,36 @@ some-byte s at false w k next q =
 
 -- after a mnemonic there is no letter
 no-letter : (s : List ℕ) (at : ℕ) (k : Token) (next : ℕ) → mnemonic s at ≡ Read.Token k next → letterAt s next ≡ false
-unfolding mnemonic letterAt inMnemonic
-no-letter s at k next e = go (leb (runEnd inMnemonic s (starEnd s at) - at) 12) e
+unfolding letterAt inMnemonic
+no-letter s at k next e = by (leb (length s) next) refl (isLetter (getD s next 0)) refl
   where
-    nextIn : Read → ℕ
-    nextIn (Read.Token k n) = n
-    nextIn (Read.Refused c) = 0
+    again : runEnd inMnemonic s next ≡ next
+    again = let f = mnemonic-next s at k next e .0 in ap (runEnd inMnemonic s) (sym f) ∙ run-again inMnemonic s (starEnd s at) ∙ f
 
-    ends : (i n : ℕ) → runEnd inMnemonic s i ≡ n → letterAt s n ≡ false
-    ends i n f = by (leb (length s) n) refl (isLetter (getD s n 0)) refl
-      where
-        again : runEnd inMnemonic s n ≡ n
-        again = ap (runEnd inMnemonic s) (sym f) ∙ run-again inMnemonic s i ∙ f
-
-        by : (b : Bool) → leb (length s) n ≡ b → (l : Bool) → isLetter (getD s n 0) ≡ l → cond b false l ≡ false
-        by true g l h = refl
-        by false g false h = refl
-        by false g true h =
-            absurd (omega (arith, again, run-more inMnemonic s n (leb-false (length s) n g) (or-left (isDigit (getD s n 0) || is "_" (getD s n 0)) h), run-from inMnemonic s (n + 1)))
-
-    go : (b : Bool) → cond b (token (ProgramMnemonic (viewOf at (runEnd inMnemonic s (starEnd s at)))) (runEnd inMnemonic s (starEnd s at))) (refused ErrorCode.ProgramMnemonicTooLong) ≡ Read.Token k next
-        → letterAt s next ≡ false
-    go true f = ends (starEnd s at) next (ap nextIn f)
-    go false f = absurd (false≢true (ap isToken f))
+    by : (b : Bool) → leb (length s) next ≡ b → (l : Bool) → isLetter (getD s next 0) ≡ l → cond b false l ≡ false
+    by true g l h = refl
+    by false g false h = refl
+    by false g true h =
+        absurd (omega (arith, again, run-more inMnemonic s next (leb-false (length s) next g) (or-left (isDigit (getD s next 0) || is "_" (getD s next 0)) h), run-from inMnemonic s (next + 1)))
 
 -- what is answered at a branch hangs on the turn alone, where the header does not end there
-abbrev isStop : Turn → Bool
-isStop turn.Stop = true
-isStop (turn.Word w st) = false
-isStop (turn.Refused e) = false
-
-pub same-turn : {t names s : List ℕ} {h n : ℕ} {x y : Seen} {r : Header} → branch t n ≡ true → turnOf s y ≡ turnOf s x → isStop (turnOf s x) ≡ false
+pub same-turn : {t names s : List ℕ} {h n : ℕ} {x y : Seen} {r : Header} → branch t n ≡ true → turnOf s y ≡ turnOf s x → (turnOf s x ≡ turn.Stop → ⊥)
     → Reads t names s h n x r → Reads t names s h n y r
 same-turn m e q (leaf l) = clash m l
 same-turn m e q (headers.refused l f) = headers.refused m (e ∙ f)
 same-turn m e q (said l f k z) = said m (e ∙ f) k z
 same-turn m e q (unsaid l f k d z) = unsaid m (e ∙ f) k d z
 same-turn m e q (unknown l f k d) = unknown m (e ∙ f) k d
-same-turn m e q (ended l f d z) = clash (ap isStop f) q
-same-turn m e q (nowhere l f d) = clash (ap isStop f) q
+same-turn m e q (ended l f d z) = absurd (q f)
+same-turn m e q (nowhere l f d) = absurd (q f)
 
 -- a mnemonic that is ahead is no end
-mnemonic-turn : (s : List ℕ) (p : ℕ) (c : Bool) → begins c s p ≡ true → isStop (turnOf s (aheadAt s p c)) ≡ false
+mnemonic-turn : (s : List ℕ) (p : ℕ) (c : Bool) → begins c s p ≡ true → turnOf s (aheadAt s p c) ≡ turn.Stop → ⊥
 mnemonic-turn s p c w = go (mnemonic s p) refl
   where
-    go : (x : Read) → mnemonic s p ≡ x → isStop (turnOf s (aheadAt s p c)) ≡ false
-    go (Read.Token k next) q = ap isStop (turn-word s p c (met s p c w) k next q)
-    go (Read.Refused e) q = ap isStop (turn-refused s p c (met s p c w) e q)
+    go : (x : Read) → mnemonic s p ≡ x → turnOf s (aheadAt s p c) ≡ turn.Stop → ⊥
+    go (Read.Token k next) q e = let z : _≡_ {A = ℕ} 0 1 = cc (turn-word s p c (met s p c w) k next q) in omega arith
+    go (Read.Refused c′) q e = let z : _≡_ {A = ℕ} 0 1 = cc (turn-refused s p c (met s p c w) c′ q) in omega arith
 
 -- where the mnemonics lead no further at a branch, and the header does not end, what is ahead decides why
 module _ (t names s : List ℕ) (n p : ℕ) (c : Bool) (m : branch t n ≡ true) (l : letterAt s p ≡ false) (z : standsAt 42 s p ≡ false) (g : (goesOn s p ≡ false) ⊎ (c ≡ true)) where
@@ -162,11 +137,8 @@ module _ (t names s : List ℕ) (n p : ℕ) (c : Bool) (m : branch t n ≡ true)
 
 -- a colon is no star, and in a common command it is refused
 colon-no-star : (s : List ℕ) (p : ℕ) → goesOn s p ≡ true → standsAt 42 s p ≡ false
-colon-no-star s p g = go (standsAt 42 s p) refl
-  where
-    go : (d : Bool) → standsAt 42 s p ≡ d → d ≡ false
-    go true f = absurd (omega (arith, there s p 58 (colon-there s p g), there s p 42 f))
-    go false f = refl
+colon-no-star s p g =
+    both-ways (standsAt 42 s p) false (λ f. absurd (omega (arith, there s p 58 (colon-there s p g), there s p 42 f))) (λ f. clash f refl)
 
 colon-no-ending : (s : List ℕ) (p : ℕ) (c : Bool) → goesOn s p ≡ true → c ≡ true → isEnding (aheadAt s p c .ahead) ≡ false
 colon-no-ending s p c g y = rw y (sym (ap (λ (z : Seen). isEnding (z .ahead)) (colon-refused s p g)))
@@ -332,10 +304,7 @@ module _ (t names s : List ℕ) (b at : ℕ) (c : Bool) (held : branch t b ≡ t
                 go (Read.Refused i) f = rw (one-reading o (too-long i f h n inner-branch)) (too-long i f h b held)
 
             pub unsaid-down′ : (a kept place : ℕ) (i : Bool) → Arrives t names s n at c a kept place i → Arrives t names s b at c a kept place i
-            unsaid-down′ a kept place i v = go v
-              where
-                go : {a kept place : ℕ} {i : Bool} → Arrives t names s n at c a kept place i → Arrives t names s b at c a kept place i
-                go (arrives l f) = arrives l (λ h. below h (f h))
-                go (strays f) = strays (λ h. below h (f h))
+            unsaid-down′ a kept place i (arrives l f) = arrives l (λ h. below h (f h))
+            unsaid-down′ a kept place i (strays f) = strays (λ h. below h (f h))
 
 pub ruleset down-laws = (needs, child-in′, child-less′, at-leaf′, is-branch′, in-common′, next-begins′, goes-down′, ends-here′, star-begins′, star-down′, stops-here′, stuck′, no-way′, inner-less′, past-leaf′, unsaid-down′)

@@ -116,9 +116,7 @@ module _ (s : List ℕ) (at : ℕ) where
 
     pub near-through′ : (p : ℕ → Bool) → runEndAmong 13 p s at ≡ runEndAmong (13 - (i - at)) p s i → at ≤ i → limit ≤ i → i ≡ runEndAmong 13 p s at
     near-through′ p inv k h =
-        ⊎-elim
-        (λ q. past′ 13 p s at i inv (omega (arith, h, q .0)))
-        (λ q. full′ 13 p s at i inv (omega (arith, h, k, q .0)))
+        ⊎-elim (λ q. past′ 13 p s at i inv (omega (arith, h, q .0))) (λ q. full′ 13 p s at i inv (omega (arith, h, k, q .0)))
         near
 
 pub ruleset laws = (needs, begins′, stop′, more′, near-inside′, near-short′, near-through′)

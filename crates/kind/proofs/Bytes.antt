@@ -42,8 +42,7 @@ right false b t = absurd t
 
 agree-from : (p q : ℕ → Bool) (n i k : ℕ) → T (agree p q i n) → k < n → p (i + k) ≡ q (i + k)
 agree-from p q zero i k t h = absurd (not-suc-le-zero h)
-agree-from p q (suc n) i zero t h =
-    rw add-zero (beq-eq (p i) (q i) (left (Bool·beq (p i) (q i)) (agree p q (suc i) n) t))
+agree-from p q (suc n) i zero t h = rw add-zero (beq-eq (p i) (q i) (left (Bool·beq (p i) (q i)) (agree p q (suc i) n) t))
 agree-from p q (suc n) i (suc k) t h =
     rw (add-suc i k, ← suc-add i k) (agree-from p q n (suc i) k (right (Bool·beq (p i) (q i)) (agree p q (suc i) n) t) (le-of-suc-le-suc h))
 

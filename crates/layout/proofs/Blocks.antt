@@ -1,7 +1,7 @@
 -- Laws of fault 3, as the code meets them.
 use Prim.Native.Nat.{ℕ, _+_, _≤_, _<_}
 use mathlib.Core.Path.{_≡_, refl, sym, _∙_}
-use mathlib.Core.Logic.{_⊎_, inl, inr}
+use mathlib.Core.Logic.{⊎-elim}
 use mathlib.Core.List.{List}
 use mathlib.Core.Bool.{Bool, true, false, not}
 use native.Mathlib.Numerals.{add-one}
@@ -21,11 +21,7 @@ use Rattle.util.proofs.Before.{Before, none-yet, one-more}
 
 -- a branch lies in the table
 pub in-table : (t : List ℕ) (b : ℕ) → branch t b ≡ true → b < length t
-in-table t b h = go (less-or-not b (length t))
-  where
-    go : (b < length t) ⊎ (length t ≤ b) → b < length t
-    go (inl l) = l
-    go (inr l) = clash h (past-table t b l)
+in-table t b h = ⊎-elim (λ l. l) (λ l. clash h (past-table t b l)) (less-or-not b (length t))
 
 -- a branch has its block behind those before it, and after itself
 pub record Placed (t : List ℕ) (b : ℕ) : Type 0 where
@@ -41,8 +37,7 @@ pub record Follows (t : List ℕ) (k a : ℕ) : Type 0 where
 module _ (t : List ℕ) where
   pub blocks-begins′ : Follows t 0 1
   unfolding behind
-  blocks-begins′ =
-      record { within = omega arith; place = refl; placed = none-yet (Placed t) 0 }
+  blocks-begins′ = record { within = omega arith; place = refl; placed = none-yet (Placed t) 0 }
 
   module _ (k a : ℕ) (inv : Follows t k a) where
     pub blocks-end′ : length t ≤ k → Decides (ChildBlocks t) (not (eqb a (length t)))

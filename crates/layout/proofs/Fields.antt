@@ -133,9 +133,7 @@ no-fault t root all = none
 module _ (t : List ℕ) where
   pub fields-none′ : length t ≡ 0 → Decides (NodeFields t) true
   unfolding isBranch
-  fields-none′ h =
-      let z : getD t 0 0 ≡ 0 = List·getD-eq-default t 0 (omega arith) in
-      holds (root-no-branch (rw z))
+  fields-none′ h = let z : getD t 0 0 ≡ 0 = List·getD-eq-default t 0 (omega arith) in holds (root-no-branch (rw z))
 
   module _ (r : Bool) (e : r ≡ isRoot (getD t 0 0)) where
     pub fields-root′ : not r ≡ true → Decides (NodeFields t) true

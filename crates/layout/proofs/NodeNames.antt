@@ -1,6 +1,6 @@
 -- Laws of fault 4, as the code meets them.
 use Prim.Native.Nat.{ℕ, _+_, _≤_, _<_}
-use mathlib.Core.Path.{_≡_, refl, sym, _∙_}
+use mathlib.Core.Path.{_≡_, sym, _∙_, ap}
 use mathlib.Core.List.{List}
 use mathlib.Core.Bool.{Bool, true, false, not}
 use native.Mathlib.Omega.{arith}
@@ -10,7 +10,7 @@ use borrow.Author.Tests.{not-true, not-false}
 use Rattle.kind.proofs.Tests.{clash}
 use Rattle.util.specs.Decides.{Decides, holds, fails}
 use Rattle.util.specs.Run.{standsAt}
-use Rattle.util.proofs.Decided.{by-both, it-holds, it-fails}
+use Rattle.util.proofs.Decided.{by-both, it-holds, it-fails, one-answer}
 use Rattle.mnemonic.specs.Spelling.{Name}
 use Rattle.name.proofs.Names.{surely}
 use Rattle.node.specs.Word.{isBranch, isDefault, nameLength, nameStart, nameIn}
@@ -67,10 +67,6 @@ module _ (t names : List ℕ) (k n : ℕ) (e : n ≡ nameLength (getD t k 0)) wh
               pub on-leaf′ : y ≡ false → (c : Bool) → Decides (Child t 0 k) c → Decides (BadName t names k) (not c)
               on-leaf′ o c p = by-both (not c) (λ j. star-below (stands u) (it-fails p (not-true c j))) into
                 where
-                  lowest : (Child t 0 k → ⊥) → (a : Bool) → c ≡ a → not c ≡ true
-                  lowest h true j = absurd (h (it-holds p j))
-                  lowest h false j = rw j
-
                   into : BadName t names k → not c ≡ true
                   into (outside h) = absurd (omega (arith, rw (← f, ← e) at h))
                   into (no-byte h) = absurd (some (e ∙ h))
@@ -78,7 +74,7 @@ module _ (t names : List ℕ) (k n : ℕ) (e : n ≡ nameLength (getD t k 0)) wh
                   into (no-name h) = absurd (h (rw (← g) (it-holds d (not-false r q))))
                   into (star-branch _ h) = clash h (sym v ∙ w)
                   into (star-default _ h) = clash h (sym z ∙ o)
-                  into (star-below _ h) = lowest h c refl
+                  into (star-below _ h) = ap not (one-answer p (fails h))
 
 pub ruleset name-laws = (needs, end-fits′, name-none′, name-long′, name-outside′, name-wrong′, name-plain′, on-branch′, on-default′, on-leaf′)
 

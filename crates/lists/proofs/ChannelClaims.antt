@@ -32,10 +32,8 @@ module _ (s : List ℕ) (st : State) where
   tells : Tells s st ((step s st) .answer) ((step s st) .state)
   unfolding taken refusal ended
   tells =
-      ⊎-elim
-      (λ h. each s st (λ (x : Step). Tells s st (x .answer) (x .state)) (λ e. refl) (λ t next k i. i) (λ next k l. l) h)
-      (λ h. rw (rests h) h)
-      (less-or-not (st .place) (length s))
+      ⊎-elim (λ h. each s st (λ (x : Step). Tells s st (x .answer) (x .state)) (λ e. refl) (λ t next k i. i) (λ next k l. l) h)
+      (λ h. rw (rests h) h) (less-or-not (st .place) (length s))
 
 pub claims : Claims
 claims =

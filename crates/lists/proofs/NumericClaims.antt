@@ -42,10 +42,8 @@ module _ (s : List ℕ) (st : State) where
   tells : Tells s st ((step s st) .answer) ((step s st) .state)
   unfolding taken refusal
   tells =
-      ⊎-elim
-      (λ h. each s st (λ (x : Step). Tells s st (x .answer) (x .state)) (refl, refl) (λ t next k i. i) h)
-      (λ h. rw (rests h) h)
-      (less-or-not (st .place) (length s))
+      ⊎-elim (λ h. each s st (λ (x : Step). Tells s st (x .answer) (x .state)) (refl, refl) (λ t next k i. i) h)
+      (λ h. rw (rests h) h) (less-or-not (st .place) (length s))
 
 -- a number, and perhaps a colon and another
 module _ (s : List ℕ) (st : State) (at : ℕ) (t : List ℕ) where

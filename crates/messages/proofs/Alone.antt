@@ -1,8 +1,9 @@
 -- A header alone, and the message that it is.
 use Prim.Native.Nat.{ℕ, _≤_}
-use mathlib.Core.Path.{_≡_, sym, ap, subst, _∙_}
+use mathlib.Core.Path.{_≡_, sym, subst}
 use mathlib.Core.List.{List, [], _∷_}
-use mathlib.Core.Bool.{Bool, true, false, false≢true}
+use mathlib.Core.Bool.{Bool, true, false}
+use native.Mathlib.Omega.{arith}
 use lib.ListN.{length}
 use Rattle.error.specs.declared.ErrorCode.{ErrorCode}
 use Rattle.node.specs.Tree.{branch}
@@ -20,21 +21,8 @@ use Rattle.message.specs.Message as message
 use Rattle.message.specs.Message.{complete, refused, none, stopped, next, Message, text}
 use Rattle.message.proofs.Fronts.{begun, past-text}
 
-abbrev isCommand : Resolved → Bool
-isCommand (Resolved.Command c query kept) = true
-isCommand (Resolved.Refused e) = false
-
--- the record of a command
-abbrev recordOfAnswer : Resolved → Record
-recordOfAnswer (Resolved.Command c query kept) = recordOf c query kept 0
-recordOfAnswer (Resolved.Refused e) = recordOf 0 false 0 0
-
-abbrev codeIn : Resolved → ErrorCode
-codeIn (Resolved.Command c query kept) = ErrorCode.SyntaxError
-codeIn (Resolved.Refused e) = e
-
 no-command-here : {A : Type 0} {e : ErrorCode} {c kept : ℕ} {query : Bool} → Resolved.Refused e ≡ Resolved.Command c query kept → A
-no-command-here q = absurd (false≢true (ap isCommand q))
+no-command-here q = let z : _≡_ {A = ℕ} 0 1 = cc in absurd (omega arith)
 
 module _ {t names : List ℕ} {b : ℕ} {s : List ℕ} where
   pub single : {c kept : ℕ} {query : Bool} (r : Resolved) → Resolves t names b s r → r ≡ Resolved.Command c query kept → Message t names b s (recordOf c query kept 0 ∷ []) complete
@@ -47,7 +35,8 @@ module _ {t names : List ℕ} {b : ℕ} {s : List ℕ} where
       go (Header.Found c′ query′ kept′ stop.Separator p) y o = no-command-here o
       go (Header.Found c′ query′ kept′ stop.Unit p) y o = no-command-here o
       go (Header.Found c′ query′ kept′ stop.Text p) y o =
-          subst (λ (u : Record). Message t names b s (u ∷ []) complete) (ap recordOfAnswer o)
+          let i : recordOf c′ query′ kept′ 0 ≡ recordOf c query kept 0 = cc in
+          subst (λ (u : Record). Message t names b s (u ∷ []) complete) i
           (text m l (next (begun y tt) (whole y at-end) (none (past-text s (stateOf p true false) (headers.claims .over _ _ _ _ _ _ _ _ _ y)))))
 
   pub refused-alike : {e : ErrorCode} → (e ≡ ErrorCode.SyntaxError → ⊥) → (r : Resolved) → Resolves t names b s r → r ≡ Resolved.Refused e → Message t names b s [] (refused e)
@@ -55,14 +44,14 @@ module _ {t names : List ℕ} {b : ℕ} {s : List ℕ} where
     where
       -- the same refusal
       as-told : {c : ErrorCode} → Resolved.Refused c ≡ Resolved.Refused e → Message t names b s [] (refused c) → Message t names b s [] (refused e)
-      as-told o y = subst (λ (c : ErrorCode). Message t names b s [] (refused c)) (ap codeIn o) y
+      as-told {c} o y = let i : c ≡ e = cc in rw i at y
 
       by-header : branch t b ≡ true → length s ≤ 65535 → (h : Header) → Begins t names s b (seenAt s ofMessage) h → closing h ≡ Resolved.Refused e
           → Message t names b s [] (refused e)
-      by-header m l (Header.Refused c) y o = as-told o (text m l (stopped (begun y (m, λ p. other (sym (ap codeIn o) ∙ p))) (no-command y)))
-      by-header m l (Header.Found c query kept stop.Separator p) y o = absurd (other (sym (ap codeIn o)))
-      by-header m l (Header.Found c query kept stop.Unit p) y o = absurd (other (sym (ap codeIn o)))
-      by-header m l (Header.Found c query kept stop.Text p) y o = absurd (false≢true (ap isCommand (sym o)))
+      by-header m l (Header.Refused c) y o = as-told o (text m l (stopped (begun y (m, λ p. other (cc))) (no-command y)))
+      by-header m l (Header.Found c query kept stop.Separator p) y o = absurd (other (cc))
+      by-header m l (Header.Found c query kept stop.Unit p) y o = absurd (other (cc))
+      by-header m l (Header.Found c query kept stop.Text p) y o = no-command-here (sym o)
 
       go : {r : Resolved} → Resolves t names b s r → r ≡ Resolved.Refused e → Message t names b s [] (refused e)
       go (alone.no-branch l) o = as-told o (message.no-branch l)

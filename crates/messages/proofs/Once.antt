@@ -1,18 +1,17 @@
 -- One answer only: a message has its units and its ending, and a walk over it one outcome.
 use Prim.Native.Nat.{ℕ}
 use mathlib.Core.Path.{_≡_, refl, sym, ap, subst, _∙_}
-use mathlib.Core.List.{List, [], _∷_}
-use mathlib.Core.Bool.{Bool, true, false, false≢true}
+use mathlib.Core.List.{List, _∷_}
 use native.Mathlib.Omega.{arith}
 use Rattle.error.specs.declared.ErrorCode.{ErrorCode}
 use Rattle.kind.proofs.Tests.{clash}
-use Rattle.table.specs.{Fault.Accepted, Fault.accepts, declared.Checked.Checked}
+use Rattle.table.specs.{Fault.Accepted, Fault.accepts}
 use Rattle.table.proofs.Told.{no-fault}
 use Rattle.routes.proofs.TableClaims as tables
 use Rattle.unit.specs.declared.Unit.{Unit}
 use Rattle.units.proofs.UnitClaims as units
 use Rattle.record.specs.declared.Record.{Record}
-use Rattle.message.specs.Message.{Ending, refused, Units, none, stopped, next, Message, no-branch, too-long, text, CheckedMessage, fault, sound, Outcome, recorded, Walks}
+use Rattle.message.specs.Message.{Ending, Units, none, stopped, next, Message, no-branch, too-long, text, CheckedMessage, fault, sound, Outcome, recorded, Walks}
 use Rattle.message.specs.declared.Walked.{Walked}
 
 -- units and an ending
@@ -23,30 +22,8 @@ pub record Parts : Type 0 where
 abbrev pub parts : List Record → Ending → Parts
 parts us e = record { units = us; ending = e }
 
-abbrev faultIn : Checked → ErrorCode
-faultIn Checked.Accepted = ErrorCode.SyntaxError
-faultIn (Checked.Fault e) = e
-
--- what a unit that is read holds; of one that is refused, its number alone
-
-abbrev errorIn : Unit → ErrorCode
-errorIn (Unit.Refused e) = e
-errorIn (Unit.Read u p) = ErrorCode.SyntaxError
-
-abbrev isRead : Unit → Bool
-isRead (Unit.Refused e) = false
-isRead (Unit.Read u p) = true
-
-abbrev recordIn : Record → Unit → Record
-recordIn other (Unit.Refused e) = other
-recordIn other (Unit.Read u p) = u
-
-abbrev placeIn : ℕ → Unit → ℕ
-placeIn other (Unit.Refused e) = other
-placeIn other (Unit.Read u p) = p
-
 no-read : {A : Type 0} {e : ErrorCode} {u : Record} {p : ℕ} → Unit.Refused e ≡ Unit.Read u p → A
-no-read q = absurd (false≢true (ap isRead q))
+no-read q = let z : _≡_ {A = ℕ} 0 1 = cc in absurd (omega arith)
 
 pub one-units : {t names s : List ℕ} {b p : ℕ} {us vs : List Record} {e f : Ending} → Units t names s b p us e → Units t names s b p vs f
     → parts us e ≡ parts vs f
@@ -54,14 +31,15 @@ one-units (none x) (none y) = refl
 one-units (none x) (stopped y q) = clash x y
 one-units (none x) (next y q k) = clash x y
 one-units (stopped x p) (none y) = clash y x
-one-units (stopped x p) (stopped y q) = ap (λ (r : Unit). parts [] (refused (errorIn r))) (units.claims .one-answer _ _ _ _ _ _ _ p q)
+one-units (stopped x p) (stopped y q) = cc (units.claims .one-answer _ _ _ _ _ _ _ p q)
 one-units (stopped x p) (next y q k) = no-read (units.claims .one-answer _ _ _ _ _ _ _ p q)
 one-units (next x p h) (none y) = clash y x
 one-units (next x p h) (stopped y q) = no-read (units.claims .one-answer _ _ _ _ _ _ _ q p)
-one-units {t} {names} {s} {b} {p} {us} {vs} {e} {f} (next {u = u} x o h) (next {us = ws} y q k) =
-    let same = units.claims .one-answer _ _ _ _ _ _ _ o q in
-    let rest = subst (λ (r : Unit). Units t names s ((recordIn u r) .branch) (placeIn p r) ws f) (sym same) k in
-    ap (λ (z : Parts). parts (u ∷ z .units) (z .ending)) (one-units h rest) ∙ ap (λ (r : Unit). parts (recordIn u r ∷ ws) f) same
+one-units {t} {names} {s} {f = f} (next {u = u} {after = p} x o h) (next {u = v} {after = q} {us = ws} y o′ k) =
+    let same : Unit.Read u p ≡ Unit.Read v q = units.claims .one-answer _ _ _ _ _ _ _ o o′ in
+    let i : u ≡ v = cc in
+    let j : p ≡ q = cc in
+    rw i (ap (λ (z : Parts). parts (v ∷ z .units) (z .ending)) (one-units h (subst (λ (w : Record). Units t names s (w .branch) p ws f) (sym i) (rw (← j) at k))))
 
 -- one message, and so one outcome
 one-outcome : {M N : List Record → Ending → Type 0} → ((us vs : List Record) (e f : Ending) → M us e → N vs f → parts us e ≡ parts vs f)
@@ -91,7 +69,7 @@ module _ {t names : List ℕ} {b : ℕ} {s : List ℕ} where
   same-parts us vs e f a x y = one-parts us vs e f (past-check a x) y
 
   one-checked : (us vs : List Record) (e f : Ending) → CheckedMessage t names b s us e → CheckedMessage t names b s vs f → parts us e ≡ parts vs f
-  one-checked us vs e f (fault v) (fault u) = ap (λ (x : Checked). parts [] (refused (faultIn x))) (tables.claims .one-verdict t names _ _ v u)
+  one-checked us vs e f (fault v) (fault u) = cc (tables.claims .one-verdict t names _ _ v u)
   one-checked us vs e f (fault v) (sound a y) = same-parts us vs e f a (fault v) y
   one-checked us vs e f (sound a x) y = sym (same-parts vs us f e a y x)
 

@@ -11,18 +11,9 @@ use Rattle.record.specs.declared.Record.{Record}
 abbrev sum : ℕ → ℕ → ℕ → ℕ → ℕ
 sum c q b n = placed 16 48 c + placed 1 47 q + placed 16 31 b + placed 16 15 n
 
-module _ (c q b n : ℕ) (hc : c < 2 ^ 16) (hq : q < 2) (hb : b < 2 ^ 16) (hn : n < 2 ^ 16) where
-  command-again : field 16 48 (sum c q b n) ≡ c
-  command-again = omega arith
-
-  query-again : field 1 47 (sum c q b n) ≡ q
-  query-again = omega arith
-
-  branch-again : field 16 31 (sum c q b n) ≡ b
-  branch-again = omega arith
-
-  items-again : field 16 15 (sum c q b n) ≡ n
-  items-again = omega arith
+fields-again : (c q b n : ℕ) → c < 2 ^ 16 → q < 2 → b < 2 ^ 16 → n < 2 ^ 16
+    → (field 16 48 (sum c q b n) ≡ c) × (field 1 47 (sum c q b n) ≡ q) × (field 16 31 (sum c q b n) ≡ b) × (field 16 15 (sum c q b n) ≡ n)
+fields-again c q b n hc hq hb hn = (omega arith, omega arith, omega arith, omega arith)
 
 bit-fits : (query : Bool) → bit query < 2
 bit-fits true = omega arith
@@ -35,8 +26,8 @@ bit-told false = refl
 again : (u : Record) → Fits u → recordIn (wordOf u) ≡ u
 unfolding recordIn wordOf
 again u f =
-    let q = bit-fits (u .query) in
-    rw (command-again _ _ _ _ (f .command) q (f .branch) (f .items), query-again _ _ _ _ (f .command) q (f .branch) (f .items), branch-again _ _ _ _ (f .command) q (f .branch) (f .items), items-again _ _ _ _ (f .command) q (f .branch) (f .items), bit-told (u .query))
+    let z = fields-again _ _ _ _ (f .command) (bit-fits (u .query)) (f .branch) (f .items) in
+    rw (z .0, z .1, z .2, z .3, bit-told (u .query))
 
 -- the bit that a test told is the bit
 bit-back : (n : ℕ) → n < 2 → bit (eqb n 1) ≡ n
@@ -44,31 +35,18 @@ bit-back zero l = refl
 bit-back (suc zero) l = refl
 bit-back (suc (suc n)) l = absurd (omega arith)
 
--- a word, field by field from below
-module _ (w : ℕ) where
-  from-items : w / 2 ^ 15 * 2 ^ 15 ≡ placed 16 15 (field 16 15 w) + w / 2 ^ 31 * 2 ^ 31
-  from-items = omega arith
-
-  from-branch : w / 2 ^ 31 * 2 ^ 31 ≡ placed 16 31 (field 16 31 w) + w / 2 ^ 47 * 2 ^ 47
-  from-branch = omega arith
-
-  from-query : w / 2 ^ 47 * 2 ^ 47 ≡ placed 1 47 (field 1 47 w) + w / 2 ^ 48 * 2 ^ 48
-  from-query = omega arith
-
-  from-command : w < 2 ^ 64 → w / 2 ^ 48 * 2 ^ 48 ≡ placed 16 48 (field 16 48 w)
-  from-command l = omega (arith, l)
-
-  from-below : w % 2 ^ 15 ≡ 0 → w / 2 ^ 15 * 2 ^ 15 ≡ w
-  from-below z = omega (arith, z)
-
 sums : (a b c d e f g w : ℕ) → e ≡ d + f → f ≡ c + g → g ≡ b + a → e ≡ w → a + b + c + d ≡ w
 sums a b c d e f g w h i j k = omega (arith, h, i, j, k)
 
 same-word : (w : ℕ) → w < 2 ^ 64 → w % 2 ^ 15 ≡ 0 → wordOf (recordIn w) ≡ w
 unfolding recordIn wordOf
 same-word w l z =
-    rw (bit-back (field 1 47 w) (omega arith))
-    (sums _ _ _ _ _ _ _ w (from-items w) (from-branch w) (from-query w ∙ rw (from-command w l)) (from-below w z))
+    let i : w / 2 ^ 15 * 2 ^ 15 ≡ placed 16 15 (field 16 15 w) + w / 2 ^ 31 * 2 ^ 31 = omega arith in
+    let b : w / 2 ^ 31 * 2 ^ 31 ≡ placed 16 31 (field 16 31 w) + w / 2 ^ 47 * 2 ^ 47 = omega arith in
+    let q : w / 2 ^ 47 * 2 ^ 47 ≡ placed 1 47 (field 1 47 w) + w / 2 ^ 48 * 2 ^ 48 = omega arith in
+    let c : w / 2 ^ 48 * 2 ^ 48 ≡ placed 16 48 (field 16 48 w) = omega arith in
+    let below : w / 2 ^ 15 * 2 ^ 15 ≡ w = omega arith in
+    rw (bit-back (field 1 47 w) (omega arith)) (sums _ _ _ _ _ _ _ w i b (q ∙ rw c) below)
 
 zero-below : (u : Record) → wordOf u % 2 ^ 15 ≡ 0
 unfolding wordOf

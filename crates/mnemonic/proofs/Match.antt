@@ -27,8 +27,7 @@ module _ (x y : List ℕ) where
   module _ (o : Bool) where
     pub none-some′ : length x ≡ 0 → (length y ≡ 0 → ⊥) → o ≡ pairs eqb y (49 ∷ []) → o ≡ sameNumericSuffix x y
     unfolding sameNumericSuffix pairs
-    none-some′ h some e =
-        e ∙ sym (rw (empty x h, differ eqb [] y (λ q. some (sym q))) (or-false (pairs eqb y (49 ∷ []))))
+    none-some′ h some e = e ∙ sym (rw (empty x h, differ eqb [] y (λ q. some (sym q))) (or-false (pairs eqb y (49 ∷ []))))
 
     pub some-none′ : (length x ≡ 0 → ⊥) → length y ≡ 0 → o ≡ pairs eqb x (49 ∷ []) → o ≡ sameNumericSuffix x y
     unfolding sameNumericSuffix pairs
@@ -36,8 +35,7 @@ module _ (x y : List ℕ) where
 
     pub some-some′ : (length x ≡ 0 → ⊥) → (length y ≡ 0 → ⊥) → o ≡ pairs eqb x y → o ≡ sameNumericSuffix x y
     unfolding sameNumericSuffix
-    some-some′ some other e =
-        e ∙ sym (rw (differ eqb x [] some, differ eqb y [] other, and-false) (or-false (pairs eqb x y)))
+    some-some′ some other e = e ∙ sym (rw (differ eqb x [] some, differ eqb y [] other, and-false) (or-false (pairs eqb x y)))
 
 -- a test of two halves, by its second one
 module _ (m i s j : List ℕ) (o : Bool) (e : o ≡ sameNumericSuffix i j) where
@@ -109,8 +107,7 @@ module _ (m s : List ℕ) (a : Bool) (first : a ≡ compares m s) where
     parted = rw (← first, q, ← px, ← py)
 
     pub neither′ : x ≡ length m → y ≡ length s → false ≡ matches m s
-    neither′ hx hy =
-        sym (parted ∙ rw (hx, hy, take-length m, take-length s, ← first, q))
+    neither′ hx hy = sym (parted ∙ rw (hx, hy, take-length m, take-length s, ← first, q))
 
     pub parts′ : (c : Bool) → c ≡ (compares (take x m) (take y s) && sameNumericSuffix (take (length m - x) (drop x m)) (take (length s - y) (drop y s)))
         → c ≡ matches m s

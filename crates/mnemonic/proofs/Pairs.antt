@@ -36,9 +36,7 @@ module _ (r : ℕ → ℕ → Bool) (x y : List ℕ) where
   module _ (i : ℕ) (inv : pairs r x y ≡ pairs r (drop i x) (drop i y)) (level : length x ≡ length y) where
     pub at-step : i < length x → pairs r x y ≡ (r (getD x i 0) (getD y i 0) && pairs r (drop (suc i) x) (drop (suc i) y))
     unfolding pairs
-    at-step h =
-        let k : i < length y = omega arith in
-        inv ∙ rw (drop-cons x i 0, drop-cons y i 0)
+    at-step h = let k : i < length y = omega arith in inv ∙ rw (drop-cons x i 0, drop-cons y i 0)
 
     pub stop′ : (b : Bool) → i < length x → b ≡ r (getD x i 0) (getD y i 0) → not b ≡ true → false ≡ pairs r x y
     stop′ b h e q = sym (at-step h ∙ rw (← e, not-true b q))
@@ -48,9 +46,7 @@ module _ (r : ℕ → ℕ → Bool) (x y : List ℕ) where
 
     pub past′ : length x ≤ i → true ≡ pairs r x y
     unfolding pairs
-    past′ h =
-        let k : length y ≤ i = omega arith in
-        sym (inv ∙ rw (drop-of-length-le x h, drop-of-length-le y k))
+    past′ h = let k : length y ≤ i = omega arith in sym (inv ∙ rw (drop-of-length-le x h, drop-of-length-le y k))
 
 module _ (x y : List ℕ) (i : ℕ) (inv : pairs eqb x y ≡ pairs eqb (drop i x) (drop i y)) (level : length x ≡ length y) where
   pub stop-equal′ : i < length x → (getD x i 0 ≡ getD y i 0 → ⊥) → false ≡ pairs eqb x y

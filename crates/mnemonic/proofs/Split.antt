@@ -12,6 +12,7 @@ use lib.Seq.{drop-cons, drop-length}
 use borrow.Author.Needs.{needs}
 use borrow.Author.Tests.{not-true, not-false}
 use Rattle.kind.specs.Class.{isDigit}
+use Rattle.kind.proofs.Tests.{by-test}
 use Rattle.util.specs.Run.{every}
 use Rattle.mnemonic.specs.Mnemonic.{lastEnd, numericSuffixStart}
 
@@ -26,8 +27,7 @@ pub last-end : (s : List ℕ) (i : ℕ) → i < length s → every isDigit (drop
 unfolding lastEnd
 last-end [] i h d e = absurd (not-suc-le-zero h)
 last-end (b ∷ s) zero h d e = rw (d, e)
-last-end (b ∷ s) (suc i) h d e =
-    rw (not-every s i (le-of-suc-le-suc h) e) (ap suc (last-end s i (le-of-suc-le-suc h) d e))
+last-end (b ∷ s) (suc i) h d e = rw (not-every s i (le-of-suc-le-suc h) e) (ap suc (last-end s i (le-of-suc-le-suc h) d e))
 
 -- what the loop keeps
 pub record Passed (s : List ℕ) (i : ℕ) : Type 0 where
@@ -69,32 +69,21 @@ module _ (s : List ℕ) where
 pub last-within : (s : List ℕ) → lastEnd s ≤ length s
 unfolding lastEnd
 last-within [] = omega arith
-last-within (b ∷ s) = go (every isDigit s) (isDigit b) (last-within s)
-  where
-    go : (d e : Bool) → lastEnd s ≤ length s → cond d (cond e 0 1) (suc (lastEnd s)) ≤ suc (length s)
-    go true true h = omega arith
-    go true false h = omega arith
-    go false e h = omega arith
+last-within (b ∷ s) =
+    by-test (λ (k : ℕ). k ≤ suc (length s)) (every isDigit s)
+    (λ _. by-test (λ (k : ℕ). k ≤ suc (length s)) (isDigit b) (λ _. omega arith) (λ _. omega arith)) (λ _. omega (arith, last-within s))
 
 pub starts-within : (s : List ℕ) → numericSuffixStart s ≤ length s
 unfolding numericSuffixStart
-starts-within s = go (every isDigit s) (last-within s)
-  where
-    go : (d : Bool) → lastEnd s ≤ length s → cond d (length s) (lastEnd s) ≤ length s
-    go true h = omega arith
-    go false h = h
+starts-within s = by-test (λ (k : ℕ). k ≤ length s) (every isDigit s) (λ _. omega arith) (λ _. last-within s)
 
 -- behind the last character that is no digit stand digits
 last-digits : (s : List ℕ) → every isDigit (drop (lastEnd s) s) ≡ true
 unfolding lastEnd every
 last-digits [] = refl
-last-digits (b ∷ s) = go (every isDigit s) refl (isDigit b) refl (last-digits s)
-  where
-    go : (d : Bool) → every isDigit s ≡ d → (e : Bool) → isDigit b ≡ e → every isDigit (drop (lastEnd s) s) ≡ true
-        → every isDigit (drop (cond d (cond e 0 1) (suc (lastEnd s))) (b ∷ s)) ≡ true
-    go true p true q ih = rw (q, p)
-    go true p false q ih = p
-    go false p e q ih = ih
+last-digits (b ∷ s) =
+    by-test (λ (k : ℕ). every isDigit (drop k (b ∷ s)) ≡ true) (every isDigit s)
+    (λ p. by-test (λ (k : ℕ). every isDigit (drop k (b ∷ s)) ≡ true) (isDigit b) (λ q. rw (q, p)) (λ q. p)) (λ _. last-digits s)
 
 last-plain : (s : List ℕ) → every isDigit s ≡ false → (m : ℕ) × (lastEnd s ≡ suc m) × (isDigit (getD s m 0) ≡ false)
 unfolding lastEnd every
@@ -110,27 +99,18 @@ last-plain (b ∷ s) h = go (every isDigit s) (isDigit b) refl (last-plain s) h
 -- a text that is not empty has a stem that is not
 pub stem-some : (b : ℕ) (s : List ℕ) → (m : ℕ) × (numericSuffixStart (b ∷ s) ≡ suc m)
 unfolding numericSuffixStart
-stem-some b s = go (every isDigit (b ∷ s)) refl
-  where
-    go : (d : Bool) → every isDigit (b ∷ s) ≡ d → (m : ℕ) × (cond d (length (b ∷ s)) (lastEnd (b ∷ s)) ≡ suc m)
-    go true e = (length s, refl)
-    go false e = let z = last-plain (b ∷ s) e in (z .0, z .1)
+stem-some b s =
+    by-test (λ (k : ℕ). (m : ℕ) × (k ≡ suc m)) (every isDigit (b ∷ s)) (λ _. (length s, refl)) (λ e. let z = last-plain (b ∷ s) e in (z .0, z .1))
 
 pub split-digits : (s : List ℕ) → every isDigit (drop (numericSuffixStart s) s) ≡ true
 unfolding numericSuffixStart every
-split-digits s = go (every isDigit s)
-  where
-    go : (d : Bool) → every isDigit (drop (cond d (length s) (lastEnd s)) s) ≡ true
-    go true = rw drop-length
-    go false = last-digits s
+split-digits s = by-test (λ (k : ℕ). every isDigit (drop k s) ≡ true) (every isDigit s) (λ _. rw drop-length) (λ _. last-digits s)
 
 pub split-before : (s : List ℕ) → ((every isDigit s ≡ true) × (drop (numericSuffixStart s) s ≡ [])) ⊎ (isDigit (getD s (numericSuffixStart s - 1) 0) ≡ false)
 unfolding numericSuffixStart
-split-before s = go (every isDigit s) refl
-  where
-    go : (d : Bool) → every isDigit s ≡ d → ((d ≡ true) × (drop (cond d (length s) (lastEnd s)) s ≡ [])) ⊎ (isDigit (getD s (cond d (length s) (lastEnd s) - 1) 0) ≡ false)
-    go true e = inl (refl, drop-length s)
-    go false e = let z = last-plain s e in inr (rw (z .1, sub-one) (z .2))
+split-before s =
+    by-test (λ (k : ℕ). ((every isDigit s ≡ true) × (drop k s ≡ [])) ⊎ (isDigit (getD s (k - 1) 0) ≡ false)) (every isDigit s)
+    (λ e. inl (e, drop-length s)) (λ e. let z = last-plain s e in inr (rw (z .1, sub-one) (z .2)))
 
 pub starts-within′ : (s : List ℕ) (i : ℕ) → i ≡ numericSuffixStart s → i ≤ length s
 starts-within′ s i e = rw e (starts-within s)

@@ -48,9 +48,7 @@ module _ (m x : List ℕ) (r : Bool) (e : r ≡ compares m x) where
 
   pub form-whole′ : r ≡ false → (c : ℕ) → c ≡ run notSmall x → c ≡ length x → false ≡ formOf m x
   unfolding formOf
-  form-whole′ q c k h =
-      let w : take (run notSmall x) x ≡ x = take-all (run notSmall x) x (omega arith) in
-      rw (w, ← e, q)
+  form-whole′ q c k h = let w : take (run notSmall x) x ≡ x = take-all (run notSmall x) x (omega arith) in rw (w, ← e, q)
 
   pub form-short′ : r ≡ false → (c : ℕ) → c ≡ run notSmall x → (o : Bool) → o ≡ compares m (take c x) → o ≡ formOf m x
   unfolding formOf

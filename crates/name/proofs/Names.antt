@@ -1,18 +1,18 @@
 -- The runs that the code passes over are the parts of a name.
-use Prim.Native.Nat.{ℕ, zero, suc, _+_, _≤_, _<_}
+use Prim.Native.Nat.{ℕ, suc, _+_, _≤_, _<_}
 use mathlib.Core.Path.{_≡_, refl, sym, ap, _∙_}
-use mathlib.Core.Logic.{_⊎_, inl, inr}
+use mathlib.Core.Logic.{_⊎_, inl, inr, ⊎-elim}
 use mathlib.Core.List.{List, [], _∷_, _++_}
 use mathlib.Core.Bool.{Bool, true, false, not, _&&_}
 use native.Mathlib.Nat.{add-zero}
 use native.Mathlib.Omega.{arith}
 use lib.Dec.{eqb, ltb}
-use lib.ListN.{length, getD, take, drop, take-append-drop, length-drop}
+use lib.ListN.{length, getD, take, drop, take-append-drop, length-drop, List·getD-eq-default}
 use lib.Seq.{drop-drop, drop-append-seam, getD-drop, length-take-le}
 use borrow.Author.Needs.{needs}
 use borrow.Author.Tests.{not-true, ltb-true, eqb-true, lt-ltb, eq-eqb, le-ltb}
 use Rattle.kind.specs.Class.{isCapital, isSmall, isDigit}
-use Rattle.kind.proofs.Tests.{and-left, and-right, and-both, clash, less-or-not}
+use Rattle.kind.proofs.Tests.{both-ways, and-left, and-right, and-both, clash, less-or-not}
 use Rattle.kind.proofs.Classes.{small-no-capital, digit-no-capital, small-no-digit}
 use Rattle.util.specs.Decides.{Decides, holds, fails}
 use Rattle.util.specs.Run.{run, runEnd, standsAt, every}
@@ -45,25 +45,14 @@ no-run-alone p q f [] h = refl
 no-run-alone p q f (b ∷ x) h = rw (f b (and-left (q b) (every q x) h))
 
 digit-no-small : (b : ℕ) → isDigit b ≡ true → isSmall b ≡ false
-digit-no-small b h = go (isSmall b) refl
-  where
-    go : (r : Bool) → isSmall b ≡ r → isSmall b ≡ false
-    go true e = clash h (small-no-digit b e)
-    go false e = e
+digit-no-small b h = both-ways (isSmall b) false (λ e. clash h (small-no-digit b e)) (λ e. clash e refl)
 
 -- whether a zero stands at a place, by the text from there on
 stands-drop : (s : List ℕ) (i : ℕ) → standsAt 48 s i ≡ eqb (getD (drop i s) 0 0) 48
 unfolding standsAt
-stands-drop s i = rw (getD-drop i s 0 0, add-zero i) (go (less-or-not i (length s)))
-  where
-    go : (i < length s) ⊎ (length s ≤ i) → (ltb i (length s) && eqb (getD s i 0) 48) ≡ eqb (getD s i 0) 48
-    go (inl h) = rw (lt-ltb i (length s) h)
-    go (inr h) = rw (le-ltb i (length s) h) (past s i h)
-      where
-        past : (s : List ℕ) (i : ℕ) → length s ≤ i → false ≡ eqb (getD s i 0) 48
-        past [] i h = refl
-        past (b ∷ s) zero h = absurd (omega arith)
-        past (b ∷ s) (suc i) h = past s i (omega arith)
+stands-drop s i =
+    rw (getD-drop i s 0 0, add-zero i)
+    (⊎-elim (λ h. rw (lt-ltb i (length s) h)) (λ h. rw (le-ltb i (length s) h, List·getD-eq-default s 0 h)) (less-or-not i (length s)))
 
 filled : (x : List ℕ) → (x ≡ [] → ⊥) → 0 < length x
 filled [] h = absurd (h refl)
@@ -234,11 +223,8 @@ module _ (s : List ℕ) (t r : Bool) (e : t ≡ standsAt 42 s 0) where
       out h = let w = long s stands in from-plain (42 ∷ []) (w .1) s (w .2 ∙ ap (λ (b : ℕ). b ∷ w .1) (w .3)) (inr refl) (rw (w .2) at (plain-exact s 1 within .0 h))
 
       into : Name s → namesFrom s 1 ≡ true
-      into n = go (n .star-or-none)
-        where
-          go : (n .star ≡ []) ⊎ (n .star ≡ 42 ∷ []) → namesFrom s 1 ≡ true
-          go (inl f) = absurd (no-star s (behind-star s n [] f) stands)
-          go (inr f) = plain-exact s 1 within .1 (behind-star s n (42 ∷ []) f)
+      into n =
+          ⊎-elim (λ f. absurd (no-star s (behind-star s n [] f) stands)) (λ f. plain-exact s 1 within .1 (behind-star s n (42 ∷ []) f)) (n .star-or-none)
 
   pub unstarred′ : t ≡ false → r ≡ namesFrom s 0 → Decides (Name s) r
   unfolding x
@@ -248,11 +234,8 @@ module _ (s : List ℕ) (t r : Bool) (e : t ≡ standsAt 42 s 0) where
       out h = from-plain [] s s refl (inl refl) (plain-exact s 0 (omega arith) .0 h)
 
       into : Name s → namesFrom s 0 ≡ true
-      into n = go (n .star-or-none)
-        where
-          go : (n .star ≡ []) ⊎ (n .star ≡ 42 ∷ []) → namesFrom s 0 ≡ true
-          go (inl f) = plain-exact s 0 (omega arith) .1 (behind-star s n [] f)
-          go (inr f) = clash (star-first s n f) (sym e ∙ q)
+      into n =
+          ⊎-elim (λ f. plain-exact s 0 (omega arith) .1 (behind-star s n [] f)) (λ f. clash (star-first s n f) (sym e ∙ q)) (n .star-or-none)
 
 -- a text that cannot fail to be a name is one
 pub surely : (s : List ℕ) → ((Name s → ⊥) → ⊥) → Name s

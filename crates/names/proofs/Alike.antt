@@ -1,16 +1,16 @@
 -- Texts alike in either case have the same digits, and so the same suffix; and where a numericSuffix starts.
-use Prim.Native.Nat.{ℕ, zero, suc, pred, _+_, _≤_, _<_}
+use Prim.Native.Nat.{ℕ, zero, suc, pred, _+_, _≤_}
 use mathlib.Core.Path.{_≡_, refl, sym, ap₂, _∙_}
-use mathlib.Core.Logic.{_⊎_, inl, inr}
+use mathlib.Core.Logic.{_⊎_, inl, inr, ⊎-elim}
 use mathlib.Core.List.{List, [], _∷_, _++_, append-assoc, append-nil}
-use mathlib.Core.Bool.{Bool, true, false, _&&_, false≢true}
+use mathlib.Core.Bool.{Bool, true, false, _&&_}
 use native.Mathlib.Omega.{arith}
 use lib.Dec.{eqb, leb}
-use lib.ListN.{length, getD, take, drop, length-append}
+use lib.ListN.{length, take, drop, length-append}
 use lib.Seq.{drop-append-seam, getD-append-seam}
 use borrow.Author.Tests.{leb-true, eqb-true, eq-eqb}
 use Rattle.kind.specs.Class.{isCapital, isSmall, isDigit}
-use Rattle.kind.proofs.Tests.{both-ways, or-left, and-left, and-right, and-both}
+use Rattle.kind.proofs.Tests.{both-ways, or-left, and-left, and-right, and-both, clash}
 use Rattle.kind.proofs.Classes.{digit-no-capital, small-no-digit}
 use Rattle.util.specs.Run.{every}
 use Rattle.mnemonic.specs.Mnemonic.{pairs, folded, eitherCase, alike, lastEnd, numericSuffixStart, sameNumericSuffix}
@@ -27,21 +27,13 @@ folded-range b = go (isCapital b) refl
 
 digit-stays : (c d : ℕ) → isDigit c ≡ true → folded c ≡ folded d → d ≡ c
 unfolding isDigit folded
-digit-stays c d h e = go (folded-range c) (folded-range d)
-  where
-    top : c ≤ 57
-    top = leb-true c 57 (and-right (leb 48 c) (leb c 57) h)
-
-    low : folded c ≡ c
-    low = rw (digit-no-capital c h)
-
-    go : (97 ≤ folded c) ⊎ (folded c ≡ c) → (97 ≤ folded d) ⊎ (folded d ≡ d) → d ≡ c
-    go x (inl y) = absurd (omega (arith, low, top))
-    go x (inr y) = sym y ∙ sym e ∙ low
+digit-stays c d h e =
+    let top : c ≤ 57 = leb-true c 57 (and-right (leb 48 c) (leb c 57) h) in
+    let low : folded c ≡ c = rw (digit-no-capital c h) in
+    ⊎-elim (λ y. absurd (omega arith)) (λ y. sym y ∙ sym e ∙ low) (folded-range d)
 
 same-digit : (c d : ℕ) → folded c ≡ folded d → isDigit c ≡ isDigit d
-same-digit c d e =
-    both-ways (isDigit c) (isDigit d) (λ h. rw (digit-stays c d h e) h) (λ h. rw (digit-stays d c h (sym e)) h)
+same-digit c d e = both-ways (isDigit c) (isDigit d) (λ h. rw (digit-stays c d h e) h) (λ h. rw (digit-stays d c h (sym e)) h)
 
 module _ (c d : ℕ) (x y : List ℕ) (e : alike (c ∷ x) (d ∷ y) ≡ true) where
   first-folds : folded c ≡ folded d
@@ -52,26 +44,18 @@ module _ (c d : ℕ) (x y : List ℕ) (e : alike (c ∷ x) (d ∷ y) ≡ true) w
   unfolding pairs
   rest-alike = and-right (eitherCase c d) (pairs eitherCase x y) e
 
-no-pair : (c : ℕ) (x : List ℕ) → alike (c ∷ x) [] ≡ true → ⊥
-unfolding pairs
-no-pair c x h = false≢true h
-
-no-pair′ : (c : ℕ) (x : List ℕ) → alike [] (c ∷ x) ≡ true → ⊥
-unfolding pairs
-no-pair′ c x h = false≢true h
-
 alike-digits : (x y : List ℕ) → alike x y ≡ true → every isDigit x ≡ every isDigit y
-unfolding every
+unfolding every pairs
 alike-digits [] [] e = refl
-alike-digits [] (d ∷ y) e = absurd (no-pair′ d y e)
-alike-digits (c ∷ x) [] e = absurd (no-pair c x e)
+alike-digits [] (d ∷ y) e = clash e refl
+alike-digits (c ∷ x) [] e = clash e refl
 alike-digits (c ∷ x) (d ∷ y) e = ap₂ _&&_ (same-digit c d (first-folds c d x y e)) (alike-digits x y (rest-alike c d x y e))
 
 alike-last : (x y : List ℕ) → alike x y ≡ true → lastEnd x ≡ lastEnd y
-unfolding lastEnd
+unfolding lastEnd pairs
 alike-last [] [] e = refl
-alike-last [] (d ∷ y) e = absurd (no-pair′ d y e)
-alike-last (c ∷ x) [] e = absurd (no-pair c x e)
+alike-last [] (d ∷ y) e = clash e refl
+alike-last (c ∷ x) [] e = clash e refl
 alike-last (c ∷ x) (d ∷ y) e =
     rw (same-digit c d (first-folds c d x y e), alike-digits x y (rest-alike c d x y e), alike-last x y (rest-alike c d x y e))
 
@@ -80,10 +64,10 @@ unfolding numericSuffixStart
 alike-start x y e = rw (alike-digits x y e, alike-last x y e, long eitherCase x y e)
 
 pub alike-equal : (x y : List ℕ) → alike x y ≡ true → every isDigit x ≡ true → x ≡ y
-unfolding every
+unfolding every pairs
 alike-equal [] [] e h = refl
-alike-equal [] (d ∷ y) e h = absurd (no-pair′ d y e)
-alike-equal (c ∷ x) [] e h = absurd (no-pair c x e)
+alike-equal [] (d ∷ y) e h = clash e refl
+alike-equal (c ∷ x) [] e h = clash e refl
 alike-equal (c ∷ x) (d ∷ y) e h =
     ap₂ _∷_ (sym (digit-stays c d (and-left (isDigit c) (every isDigit x) h) (first-folds c d x y e)))
     (alike-equal x y (rest-alike c d x y e) (and-right (isDigit c) (every isDigit x) h))
@@ -92,19 +76,20 @@ pub alike-take : (i : ℕ) (x y : List ℕ) → alike x y ≡ true → alike (ta
 unfolding pairs
 alike-take zero x y e = refl
 alike-take (suc i) [] [] e = refl
-alike-take (suc i) [] (d ∷ y) e = absurd (false≢true e)
-alike-take (suc i) (c ∷ x) [] e = absurd (false≢true e)
+alike-take (suc i) [] (d ∷ y) e = clash e refl
+alike-take (suc i) (c ∷ x) [] e = clash e refl
 alike-take (suc i) (c ∷ x) (d ∷ y) e =
-    and-both (and-left (eitherCase c d) (pairs eitherCase x y) e) (alike-take i x y (and-right (eitherCase c d) (pairs eitherCase x y) e))
+    and-both (and-left (eitherCase c d) _ e) (alike-take i x y (and-right (eitherCase c d) _ e))
 
 pub alike-drop : (i : ℕ) (x y : List ℕ) → alike x y ≡ true → alike (drop i x) (drop i y) ≡ true
+unfolding pairs
 alike-drop zero x y e = e
 alike-drop (suc i) [] [] e = e
-alike-drop (suc i) [] (d ∷ y) e = absurd (no-pair′ d y e)
-alike-drop (suc i) (c ∷ x) [] e = absurd (no-pair c x e)
+alike-drop (suc i) [] (d ∷ y) e = clash e refl
+alike-drop (suc i) (c ∷ x) [] e = clash e refl
 alike-drop (suc i) (c ∷ x) (d ∷ y) e = alike-drop i x y (rest-alike c d x y e)
 
-same-itself : (x : List ℕ) → pairs eqb x x ≡ true
+pub same-itself : (x : List ℕ) → pairs eqb x x ≡ true
 unfolding pairs
 same-itself [] = refl
 same-itself (c ∷ x) = and-both (eq-eqb c c refl) (same-itself x)
@@ -123,19 +108,11 @@ pub record Ends (x : List ℕ) : Type 0 where
 
 -- digits behind it are its suffix
 pub start-behind : (x d : List ℕ) → Ends x → every isDigit d ≡ true → numericSuffixStart (x ++ d) ≡ length x
-start-behind x d e h = stop-at (x ++ d) (length x) (rw length-append (omega arith)) (rw (drop-append-seam x d) h) some last-plain
-  where
-    size : length x ≡ length (e .front) + 1
-    size = rw (e .whole, length-append)
-
-    some : 0 < length x
-    some = omega (arith, size)
-
-    at : pred (length x) ≡ length (e .front)
-    at = omega (arith, size)
-
-    last-plain : isDigit (getD (x ++ d) (pred (length x)) 0) ≡ false
-    last-plain = rw (at, e .whole, append-assoc, getD-append-seam (e .front) (e .last) d 0) (e .plain)
+start-behind x d e h =
+    let size : length x ≡ length (e .front) + 1 = rw (e .whole, length-append) in
+    let at : pred (length x) ≡ length (e .front) = omega arith in
+    stop-at (x ++ d) (length x) (rw length-append (omega arith)) (rw (drop-append-seam x d) h) (omega arith)
+    (rw (at, e .whole, append-assoc, getD-append-seam (e .front) (e .last) d 0) (e .plain))
 
 pub ends-behind : (x l : List ℕ) → Ends x → every isSmall l ≡ true → Ends (x ++ l)
 unfolding every

@@ -14,7 +14,7 @@ use Rattle.util.specs.Decides.{Decides}
 use Rattle.util.proofs.Decided.{by-both}
 use Rattle.mnemonic.specs.Mnemonic.{pairs, folded, eitherCase, alike, same, compares, numericSuffixStart, stem, numericSuffix, sameNumericSuffix}
 use Rattle.mnemonic.specs.Spelling.{Name, long, short, spells}
-use Rattle.names.proofs.Alike.{suffix-itself, start-behind}
+use Rattle.names.proofs.Alike.{same-itself, suffix-itself, start-behind}
 use Rattle.names.proofs.Spelling.{form-compares, forms-of, short-ends}
 use Rattle.name.specs.Share.{formOf, shares, Share}
 
@@ -26,8 +26,7 @@ alike-out [] [] h = refl
 alike-out [] (d ∷ y) h = clash h refl
 alike-out (c ∷ x) [] h = clash h refl
 alike-out (c ∷ x) (d ∷ y) h =
-    ap₂ _∷_ (eqb-true (folded c) (folded d) (and-left (eqb (folded c) (folded d)) (pairs eitherCase x y) h))
-    (alike-out x y (and-right (eqb (folded c) (folded d)) (pairs eitherCase x y) h))
+    ap₂ _∷_ (eqb-true (folded c) (folded d) (and-left (eqb (folded c) (folded d)) _ h)) (alike-out x y (and-right (eqb (folded c) (folded d)) _ h))
 
 alike-in : (x y : List ℕ) → map folded x ≡ map folded y → alike x y ≡ true
 unfolding pairs eitherCase
@@ -55,12 +54,7 @@ same-out (c ∷ x) [] h = clash h refl
 same-out (c ∷ x) (d ∷ y) h = ap₂ _∷_ (eqb-true c d (and-left (eqb c d) (pairs eqb x y) h)) (same-out x y (and-right (eqb c d) (pairs eqb x y) h))
 
 same-in : (x y : List ℕ) → x ≡ y → same x y ≡ true
-unfolding pairs
-same-in x y e = rw (← e) (go x)
-  where
-    go : (x : List ℕ) → pairs eqb x x ≡ true
-    go [] = refl
-    go (c ∷ x) = and-both (eq-eqb c c refl) (go x)
+same-in x y e = rw (← e) (same-itself x)
 
 abbrev one : List ℕ
 one = 49 ∷ []
@@ -73,14 +67,10 @@ unfolding sameNumericSuffix said pairs
 suffix-out x y h = ⊎-elim (λ p. ap said (same-out x y p)) (λ p. ⊎-elim first second (either (same x [] && same y one) _ p)) (either (same x y) _ h)
   where
     first : (same x [] && same y one) ≡ true → said x ≡ said y
-    first p =
-        let a : x ≡ [] = same-out x [] (and-left (same x []) (same y one) p) in
-        rw (and-right (same x []) (same y one) p, a)
+    first p = let a : x ≡ [] = same-out x [] (and-left (same x []) (same y one) p) in rw (and-right (same x []) (same y one) p, a)
 
     second : (same x one && same y []) ≡ true → said x ≡ said y
-    second p =
-        let a : y ≡ [] = same-out y [] (and-right (same x one) (same y []) p) in
-        rw (and-left (same x one) (same y []) p, a)
+    second p = let a : y ≡ [] = same-out y [] (and-right (same x one) (same y []) p) in rw (and-left (same x one) (same y []) p, a)
 
 suffix-in : (x y : List ℕ) → said x ≡ said y → sameNumericSuffix x y ≡ true
 unfolding sameNumericSuffix said
@@ -111,11 +101,9 @@ record Spelt (n w : List ℕ) : Type 0 where
 spelt : (n w : List ℕ) → spells n w ≡ true → Spelt n w
 unfolding spells Form
 spelt n w h =
+    let k = and-right (alike (long n) (stem w) || alike (short n) (stem w)) _ h in
     ⊎-elim (λ a. record { form = long n; of = inl refl; letters = a; number = k }) (λ a. record { form = short n; of = inr refl; letters = a; number = k })
-    (either (alike (long n) (stem w)) _ (and-left (alike (long n) (stem w) || alike (short n) (stem w)) (sameNumericSuffix (numericSuffix n) (numericSuffix w)) h))
-  where
-    k : sameNumericSuffix (numericSuffix n) (numericSuffix w) ≡ true
-    k = and-right (alike (long n) (stem w) || alike (short n) (stem w)) (sameNumericSuffix (numericSuffix n) (numericSuffix w)) h
+    (either (alike (long n) (stem w)) _ (and-left (alike (long n) (stem w) || alike (short n) (stem w)) _ h))
 
 by-form : (n x y : List ℕ) → Form n x → alike x y ≡ true → (alike (long n) y || alike (short n) y) ≡ true
 unfolding Form

@@ -3,7 +3,7 @@ use Prim.Native.Nat.{ℕ, suc, _+_, _-_, _≤_, _<_}
 use mathlib.Core.Path.{_≡_, refl, sym, ap, _∙_}
 use mathlib.Core.Logic.{_⊎_, inl, inr, ⊎-elim}
 use mathlib.Core.List.{List, [], _∷_, _++_, append-assoc, append-nil}
-use mathlib.Core.Bool.{Bool, true, _&&_, _||_}
+use mathlib.Core.Bool.{true, _&&_, _||_}
 use native.Mathlib.Omega.{arith}
 use lib.ListN.{length, take, drop, length-append, length-take, length-drop}
 use lib.Seq.{take-all, take-length, drop-length, take-append-seam, drop-append-seam, drop-append-le, take-append-add, drop-append-add}
@@ -28,21 +28,12 @@ record Short (m v : List ℕ) : Type 0 where
 
 compared : (m v : List ℕ) → compares m v ≡ true → (alike m v ≡ true) ⊎ Short m v
 unfolding compares
-compared m v h = ⊎-elim inl (λ k. inr (short k)) (either (alike m v) _ h)
-  where
-    f : Bool
-    f = alike (take (length v) m) v
-
-    p : Bool
-    p = every notSmall (take (length v) m)
-
-    o : Bool
-    o = every mayLeaveOut (drop (length v) m)
-
-    short : (f && (p && o)) ≡ true → Short m v
-    short k =
-        let po = and-right f (p && o) k in
-        record { fits = and-left f (p && o) k; plain = and-left p o po; left = and-right p o po }
+compared m v h =
+    ⊎-elim inl
+    (λ k.
+    let po = and-right (alike (take (length v) m) v) _ k in
+    inr (record { fits = and-left (alike (take (length v) m) v) _ k; plain = and-left (every notSmall (take (length v) m)) _ po; left = and-right (every notSmall (take (length v) m)) _ po }))
+    (either (alike m v) _ h)
 
 by-long : (m v : List ℕ) → alike m v ≡ true → compares m v ≡ true
 unfolding compares
@@ -103,9 +94,7 @@ module _ (c : List ℕ) (k : ℕ) (l : List ℕ) (plain : every notSmall c ≡ t
       go : (length v < length caps) ⊎ (length caps ≤ length v) → (length caps < length v) ⊎ (length v ≤ length caps) → alike caps v ≡ true
       go (inl h) y = absurd (not-before v s h)
       go (inr h) (inl g) = absurd (not-behind v s g)
-      go (inr h) (inr g) =
-          let size : length v ≡ length caps = omega arith in
-          rw (size, take-append-seam caps l) at (s .fits)
+      go (inr h) (inr g) = let size : length v ≡ length caps = omega arith in rw (size, take-append-seam caps l) at (s .fits)
 
   -- so the forms of the letters are all of them and the capitals
   forms : (v : List ℕ) → compares (caps ++ l) v ≡ true → (alike (caps ++ l) v ≡ true) ⊎ (alike caps v ≡ true)
@@ -227,11 +216,9 @@ snoc : (x : List ℕ) → (x ≡ [] → ⊥) → every isCapital x ≡ true → 
 unfolding every
 snoc [] h e = absurd (h refl)
 snoc (b ∷ []) h e = ([], b, refl, and-left (isCapital b) true e, refl)
-snoc (b ∷ c ∷ x) h e = go (snoc (c ∷ x) (λ q. omega (arith, ap length q)) (and-right (isCapital b) (every isCapital (c ∷ x)) e))
-  where
-    go : (y : List ℕ) × (k : ℕ) × (c ∷ x ≡ y ++ (k ∷ [])) × (isCapital k ≡ true) × (every isCapital y ≡ true)
-        → (y : List ℕ) × (k : ℕ) × (b ∷ c ∷ x ≡ y ++ (k ∷ [])) × (isCapital k ≡ true) × (every isCapital y ≡ true)
-    go z = (b ∷ z .0, z .1, ap (λ (t : List ℕ). b ∷ t) (z .2), z .3, and-both (and-left (isCapital b) (every isCapital (c ∷ x)) e) (z .4))
+snoc (b ∷ c ∷ x) h e =
+    let z = snoc (c ∷ x) (λ q. omega (arith, ap length q)) (and-right (isCapital b) _ e) in
+    (b ∷ z .0, z .1, ap (λ (t : List ℕ). b ∷ t) (z .2), z .3, and-both (and-left (isCapital b) _ e) (z .4))
 
 star-plain : {x : List ℕ} → (x ≡ []) ⊎ (x ≡ 42 ∷ []) → every notSmall x ≡ true
 unfolding every notSmall isSmall
@@ -257,67 +244,44 @@ module _ (n : List ℕ) (name : Name n) where
   capitals-are = append-assoc (name .star) (ending .0) (ending .1 ∷ []) ∙ ap (λ (t : List ℕ). name .star ++ t) (sym (ending .2))
 
   whole : n ≡ ((before ++ (ending .1 ∷ [])) ++ name .smalls) ++ name .digits
-  whole = name .parts ∙ grouped ∙ ap (λ (t : List ℕ). (t ++ name .smalls) ++ name .digits) (sym capitals-are)
-    where
-      grouped : name .star ++ (name .capitals ++ (name .smalls ++ name .digits)) ≡ ((name .star ++ name .capitals) ++ name .smalls) ++ name .digits
-      grouped = simp append-assoc
+  whole = rw capitals-are (name .parts ∙ simp append-assoc)
 
   pub match-spells : (w : List ℕ) → matches n w ≡ spells n w
   unfolding letters caps
   match-spells w =
       rw whole (agree before (ending .1) (name .smalls) before-plain (ending .3) (name .all-small) (name .digits) (name .all-digit) w)
 
-  abbrev k : ℕ
-  k = ending .1
-
-  abbrev l : List ℕ
-  l = name .smalls
-
-  abbrev d : List ℕ
-  d = name .digits
-
-  abbrev cap : isCapital k ≡ true
-  cap = ending .3
-
-  abbrev small : every isSmall l ≡ true
-  small = name .all-small
-
-  abbrev digit : every isDigit d ≡ true
-  digit = name .all-digit
-
   abbrev upper : List ℕ
-  upper = caps before k l before-plain cap small
+  upper = caps before (ending .1) (name .smalls) before-plain (ending .3) (name .all-small)
 
   -- a text compares with what stands before the numeric suffix where it is one of the two forms
   pub form-compares : (v : List ℕ) → compares (stem n) v ≡ (alike (long n) v || alike (short n) v)
   unfolding letters caps
   form-compares v =
       rw whole
-      (rw (stem-is before k l before-plain cap small d digit [], caps-are before k l before-plain cap small d digit [])
-      (both-ways (compares (upper ++ l) v) (alike (upper ++ l) v || alike upper v)
-      (λ h. ⊎-elim (λ a. or-left {a = alike (upper ++ l) v} _ a) (λ a. or-right (alike (upper ++ l) v) a) (forms before k l before-plain cap small v h))
-      (λ h. ⊎-elim (by-long (upper ++ l) v) (λ a. by-short (upper ++ l) v (caps-short before k l before-plain cap small v a)) (either (alike (upper ++ l) v) _ h))))
+      (rw (stem-is before (ending .1) (name .smalls) before-plain (ending .3) (name .all-small) (name .digits) (name .all-digit) [], caps-are before (ending .1) (name .smalls) before-plain (ending .3) (name .all-small) (name .digits) (name .all-digit) [])
+      (both-ways (compares (upper ++ name .smalls) v) (alike (upper ++ name .smalls) v || alike upper v)
+      (λ h. ⊎-elim (λ a. or-left {a = alike (upper ++ name .smalls) v} _ a) (λ a. or-right (alike (upper ++ name .smalls) v) a) (forms before (ending .1) (name .smalls) before-plain (ending .3) (name .all-small) v h))
+      (λ h. ⊎-elim (by-long (upper ++ name .smalls) v) (λ a. by-short (upper ++ name .smalls) v (caps-short before (ending .1) (name .smalls) before-plain (ending .3) (name .all-small) v a)) (either (alike (upper ++ name .smalls) v) _ h))))
 
   -- the short form ends in no digit
   pub short-ends : Ends (short n)
   unfolding letters caps
   short-ends =
       rw whole
-      (rw (stem-is before k l before-plain cap small d digit [], caps-are before k l before-plain cap small d digit [])
-      (caps-end before k l before-plain cap small))
+      (rw (stem-is before (ending .1) (name .smalls) before-plain (ending .3) (name .all-small) (name .digits) (name .all-digit) [], caps-are before (ending .1) (name .smalls) before-plain (ending .3) (name .all-small) (name .digits) (name .all-digit) [])
+      (caps-end before (ending .1) (name .smalls) before-plain (ending .3) (name .all-small)))
 
   pub forms-of : Forms n name
   unfolding letters caps
   forms-of =
       record {
         long-form =
-            ap (λ (t : List ℕ). stem t) whole
-            ∙ stem-is before k l before-plain cap small d digit []
-            ∙ ap (λ (t : List ℕ). t ++ l) capitals-are
-            ∙ append-assoc (name .star) (name .capitals) l;
+            ap (λ (t : List ℕ). stem t) whole ∙ stem-is before (ending .1) (name .smalls) before-plain (ending .3) (name .all-small) (name .digits) (name .all-digit) []
+            ∙ ap (λ (t : List ℕ). t ++ name .smalls) capitals-are ∙ append-assoc (name .star) (name .capitals) (name .smalls);
         short-form =
             ap short whole
-            ∙ rw (stem-is before k l before-plain cap small d digit []) (caps-are before k l before-plain cap small d digit [])
+            ∙ rw (stem-is before (ending .1) (name .smalls) before-plain (ending .3) (name .all-small) (name .digits) (name .all-digit) []) (caps-are before (ending .1) (name .smalls) before-plain (ending .3) (name .all-small) (name .digits) (name .all-digit) [])
             ∙ capitals-are;
-        number = ap (λ (t : List ℕ). numericSuffix t) whole ∙ suffix-is before k l before-plain cap small d digit [];
+        number = ap (λ (t : List ℕ). numericSuffix t) whole ∙ suffix-is before (ending .1) (name .smalls) before-plain (ending .3) (name .all-small) (name .digits) (name .all-digit) [];
       }

@@ -58,24 +58,16 @@ module _ (n : ℕ) where
   module _ (l : Longer) (e : l ≡ longer n) where
     fits-value : (w : ℕ) → l ≡ Longer.Value w → n ≡ w
     fits-value w f =
-        ⊎-elim
-        (λ k. ap worth (sym (small k) ∙ sym e ∙ f))
-        (λ k. absurd (true≢false (ap isLarge (sym (large k) ∙ sym e ∙ f))))
+        ⊎-elim (λ k. ap worth (sym (small k) ∙ sym e ∙ f)) (λ k. absurd (true≢false (ap isLarge (sym (large k) ∙ sym e ∙ f))))
         (less-or-not n (2 ^ 64))
 
     value-small : (w : ℕ) → l ≡ Longer.Value w → w < 2 ^ 64
     value-small w f =
-        ⊎-elim
-        (λ k. rw (← fits-value w f) k)
-        (λ k. absurd (true≢false (ap isLarge (sym (large k) ∙ sym e ∙ f))))
+        ⊎-elim (λ k. rw (← fits-value w f) k) (λ k. absurd (true≢false (ap isLarge (sym (large k) ∙ sym e ∙ f))))
         (less-or-not n (2 ^ 64))
 
     over-value : l ≡ Longer.TooLarge → 2 ^ 64 ≤ n
-    over-value f =
-        ⊎-elim
-        (λ k. absurd (false≢true (ap isLarge (sym (small k) ∙ sym e ∙ f))))
-        (λ k. k)
-        (less-or-not n (2 ^ 64))
+    over-value f = ⊎-elim (λ k. absurd (false≢true (ap isLarge (sym (small k) ∙ sym e ∙ f)))) (λ k. k) (less-or-not n (2 ^ 64))
 
 -- the digits at the front of a text are as many as the run has
 all : (base : ℕ) (t : List ℕ) → length (digits base t) ≡ run (isDigitOf base) t

@@ -45,9 +45,7 @@ placed base v (b ∷ t) = go (isDigitOf base b) (placed base (v * base + digitOf
     go : (c : Bool)
         → onward base (v * base + digitOf b) t ≡ (v * base + digitOf b) * base ^ n + valueOf base (take n t)
         → cond c (onward base (v * base + digitOf b) t) v ≡ v * base ^ cond c (suc n) 0 + valueOf base (take (cond c (suc n) 0) (b ∷ t))
-    go true ih =
-        rw (pow-suc base n, taken (isDigitOf base) t)
-        (omega (arith, ih, one-up v base (digitOf b) (base ^ n)))
+    go true ih = rw (pow-suc base n, taken (isDigitOf base) t) (omega (arith, ih, one-up v base (digitOf b) (base ^ n)))
     go false ih = at-end v base
 
 pub from-zero : (base : ℕ) (t : List ℕ) → onward base 0 t ≡ valueOf base (digits base t)

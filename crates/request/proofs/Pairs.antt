@@ -90,10 +90,8 @@ module _ (s : List ℕ) (from to : ℕ) (l : to ≤ length s) where
     pub no-more′ : i ≤ to → to - i < 2 → eqb i to ≡ arePairs (slice from to s)
     unfolding arePairs
     no-more′ h k =
-        ⊎-elim
-        (λ e. sym (inv ∙ rw (none s i to l e, eq-eqb i to e)))
-        (λ m. sym (inv ∙ rw (one s i to l m (omega arith), ne-eqb i to (λ e. omega arith))))
-        (eq-or-lt-of-le h)
+        ⊎-elim (λ e. sym (inv ∙ rw (none s i to l e, eq-eqb i to e)))
+        (λ m. sym (inv ∙ rw (one s i to l m (omega arith), ne-eqb i to (λ e. omega arith)))) (eq-or-lt-of-le h)
 
 -- a text written byte by byte, from a place on
 unfoldable pub filled : List ℕ → ℕ → List ℕ → Outcome

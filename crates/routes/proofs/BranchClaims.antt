@@ -2,7 +2,7 @@
 use Rattle.util.proofs.Decided.{one-answer}
 use Rattle.routes.specs.BranchClaims.{Claims}
 use Rattle.branch.proofs.{Once.one-pick, Once.one-pick-in, Picks.picks-children}
-use Rattle.units.proofs.BranchSome.{some-pick}
+use Rattle.units.proofs.HeaderSome.{some-pick}
 
 pub claims : Claims
 claims =

@@ -10,7 +10,7 @@ use lib.ListN.{length, getD}
 use borrow.Author.Tests.{not-true, eqb-true, ne-eqb, leb-true, ltb-true, lt-ltb}
 use Rattle.error.specs.declared.ErrorCode.{ErrorCode}
 use Rattle.kind.specs.Class.{isCapital, isSmall, isDigit}
-use Rattle.kind.proofs.{Bytes.agree, Bytes.agrees, Tests.clash, Tests.either}
+use Rattle.kind.proofs.{Bytes.agree, Bytes.agrees, Tests.by-test, Tests.clash, Tests.either}
 use Rattle.util.specs.Run.{run, runEnd, standsAt, every}
 use Rattle.util.proofs.Decided.{it-holds, it-fails}
 use Rattle.mnemonic.specs.Mnemonic.{pairs, folded, eitherCase, notSmall, mayLeaveOut, compares, lastEnd, numericSuffixStart, sameNumericSuffix}
@@ -71,11 +71,9 @@ nameTest s = cond (standsAt 42 s 0) (namesFrom s 1) (namesFrom s 0)
 
 named-by : (s : List ℕ) → nameTest s ≡ true → Name s
 unfolding nameTest
-named-by s h = go (standsAt 42 s 0) refl h
-  where
-    go : (c : Bool) → standsAt 42 s 0 ≡ c → cond c (namesFrom s 1) (namesFrom s 0) ≡ true → Name s
-    go true e h = it-holds (starred′ s true (namesFrom s 1) (sym e) refl refl) h
-    go false e h = it-holds (unstarred′ s false (namesFrom s 0) (sym e) refl refl) h
+named-by s =
+    by-test (λ (c : Bool). c ≡ true → Name s) (standsAt 42 s 0) (λ e h. it-holds (starred′ s true (namesFrom s 1) (sym e) refl refl) h)
+    (λ e h. it-holds (unstarred′ s false (namesFrom s 0) (sym e) refl refl) h)
 
 -- the one node with a star
 under-root : Child nodes 0 1

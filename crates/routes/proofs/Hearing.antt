@@ -2,7 +2,7 @@
 use Prim.Native.Nat.{ℕ, _+_, _-_}
 use mathlib.Core.Path.{_≡_, refl, sym, ap, _∙_}
 use mathlib.Core.List.{List}
-use mathlib.Core.Bool.{Bool, true, false, false≢true}
+use mathlib.Core.Bool.{Bool, true, false}
 use native.Mathlib.Omega.{arith}
 use lib.ListN.{getD}
 use Rattle.error.specs.declared.ErrorCode.{ErrorCode}
@@ -13,7 +13,7 @@ use Rattle.node.specs.Tree.{default, first, count, nameOf, Child}
 use Rattle.routes.specs.TableClaims.{Tree}
 use Rattle.branch.specs.Children.{Below, unsaidIn, Picks, first-one, not-one}
 use Rattle.branch.specs.declared.Pick.the-variants as pick
-use Rattle.token.specs.{View.partOf, View.viewOf, declared.View.View}
+use Rattle.token.specs.{View.partOf, declared.View.View}
 use Rattle.tokenizer.specs.declared.State.{State}
 use Rattle.spoken.specs.Spoken.{spokenBy}
 use Rattle.ahead.specs.{Seen.seenWith, Seen.seenAt, declared.Stop.Stop, declared.Ahead.Ahead, declared.Seen.Seen}
@@ -22,28 +22,6 @@ use Rattle.header.specs.{Turn.Turn, declared.Header.Header}
 use Rattle.header.specs.Turn as turn
 use Rattle.routes.specs.Heard.{Hears, stop, asked, word}
 use Rattle.routes.proofs.Outcomes.{Outcome, at-leaf, past-leaf, no-default, unspelled, by-default, by-word, at-end}
-
--- what tells the turns apart
-
-abbrev isWord : Turn → Bool
-isWord (turn.Word v at) = true
-isWord turn.Stop = false
-isWord (turn.Refused e) = false
-
-abbrev isStop : Turn → Bool
-isStop (turn.Word v at) = false
-isStop turn.Stop = true
-isStop (turn.Refused e) = false
-
-abbrev stateIn : State → Turn → State
-stateIn st (turn.Word v at) = at
-stateIn st turn.Stop = st
-stateIn st (turn.Refused e) = st
-
-abbrev viewAt : Turn → View
-viewAt (turn.Word v at) = v
-viewAt turn.Stop = viewOf 0 0
-viewAt (turn.Refused e) = viewOf 0 0
 
 module _ (s : List ℕ) (seen : Seen) where
   stops : {x : Stop} → seen .ahead ≡ Ahead.Stop x → turnOf s seen ≡ turn.Stop
@@ -66,16 +44,16 @@ module _ (s : List ℕ) (seen : Seen) where
   leaf-asks w h {x} e f g =
       ap (atLeaf s w h (seen .state)) e ∙ ap (behindQuery w h ((seenAt s (seen .state)) .state)) f ∙ ap (Header.Found (commandNumber w) true h x) g
 
-  leaf-goes-on : (w h : ℕ) → isWord (turnOf s seen) ≡ true → leafAnswer s w h seen ≡ undefined
+  leaf-goes-on : (w h : ℕ) {v : View} {at : State} → turnOf s seen ≡ turn.Word v at → leafAnswer s w h seen ≡ undefined
   unfolding turnOf leafAnswer
-  leaf-goes-on w h e = go (seen .ahead) e
+  leaf-goes-on w h {v} {at} = go (seen .ahead)
     where
-      go : (x : Ahead) → isWord (atBranch s (seen .state) x) ≡ true → atLeaf s w h (seen .state) x ≡ undefined
+      go : (x : Ahead) → atBranch s (seen .state) x ≡ turn.Word v at → atLeaf s w h (seen .state) x ≡ undefined
       go (Ahead.Word v) q = refl
       go Ahead.Colon q = refl
-      go Ahead.Query q = absurd (false≢true q)
-      go (Ahead.Stop x) q = absurd (false≢true q)
-      go (Ahead.Refused c) q = absurd (false≢true q)
+      go Ahead.Query q = let z : _≡_ {A = ℕ} 0 1 = cc in absurd (omega arith)
+      go (Ahead.Stop x) q = let z : _≡_ {A = ℕ} 0 1 = cc in absurd (omega arith)
+      go (Ahead.Refused c) q = let z : _≡_ {A = ℕ} 0 1 = cc in absurd (omega arith)
 
 -- a word that was reached is met again where it stands
 again : (s : List ℕ) (v : View) (st : State) → turnOf s (seenWith (Ahead.Word v) st) ≡ turn.Word v st
@@ -116,32 +94,26 @@ module _ (t names : List ℕ) (ok : Tree t names) where
   is-default x = picked x .1
 
 -- the same turn, told twice
-module _ {x : Turn} {at : State} {v : View} (e : x ≡ turn.Word v at) where
-  same-state : {at′ : State} {v′ : View} → x ≡ turn.Word v′ at′ → at′ ≡ at
-  same-state f = ap (stateIn at) (sym f ∙ e)
+module _ {A : Type 0} {x : Turn} where
+  no-word : {at : State} {v : View} → x ≡ turn.Word v at → x ≡ turn.Stop → A
+  no-word e f = let z : _≡_ {A = ℕ} 0 1 = cc in absurd (omega arith)
 
-  same-view : {at′ : State} {v′ : View} → x ≡ turn.Word v′ at′ → v′ ≡ v
-  same-view f = ap viewAt (sym f ∙ e)
+  no-refusal : {at : State} {v : View} {c : ErrorCode} → x ≡ turn.Word v at → x ≡ turn.Refused c → A
+  no-refusal e f = let z : _≡_ {A = ℕ} 0 1 = cc in absurd (omega arith)
 
-  no-word : {A : Type 0} → x ≡ turn.Stop → A
-  no-word f = absurd (false≢true (ap isWord (sym f ∙ e)))
-
-  no-refusal : {A : Type 0} {c : ErrorCode} → x ≡ turn.Refused c → A
-  no-refusal f = absurd (false≢true (ap isWord (sym f ∙ e)))
-
-stop-refused : {A : Type 0} {x : Turn} {e : ErrorCode} → x ≡ turn.Stop → x ≡ turn.Refused e → A
-stop-refused e f = absurd (false≢true (ap isStop (sym f ∙ e)))
+  stop-refused : {e : ErrorCode} → x ≡ turn.Stop → x ≡ turn.Refused e → A
+  stop-refused e f = let z : _≡_ {A = ℕ} 0 1 = cc in absurd (omega arith)
 
 -- what follows the word
-hears-on : {s : List ℕ} {end : Stop} {place : ℕ} {at at′ : State} {words : List (List ℕ)} {q : Bool} → at′ ≡ at → Hears s end place words q (seenAt s at′)
-    → Hears s end place words q (seenAt s at)
-hears-on e x = rw e at x
+hears-on : {s : List ℕ} {end : Stop} {place : ℕ} {x : Turn} {at at′ : State} {v v′ : View} {words : List (List ℕ)} {q : Bool}
+    → x ≡ turn.Word v at → x ≡ turn.Word v′ at′ → Hears s end place words q (seenAt s at) → Hears s end place words q (seenAt s at′)
+hears-on {at = at} {at′} e f x = let z : at ≡ at′ = cc in rw z at x
 
 pub heard : {t names s : List ℕ} {end : Stop} {place : ℕ} {words : List (List ℕ)} {q : Bool} {h n : ℕ} {seen : Seen} {r : Header}
     → Tree t names → Hears s end place words q seen → Reads t names s h n seen r → Outcome t names q end place h n words r
 heard {t} {names} {s} {end} {place} {h = h} {n} {seen} ok (stop e g) (leaf m) = rw (leaf-stops s seen (getD t n 0) h e g) (at-leaf t names false end place m)
 heard {t} {names} {s} {end} {place} {h = h} {n} {seen} ok (asked e f g) (leaf m) = rw (leaf-asks s seen (getD t n 0) h e f g) (at-leaf t names true end place m)
-heard {t} {names} {s} {end} {place} {q = q} {h} {n} {seen} ok (word e p x) (leaf m) = rw (leaf-goes-on s seen (getD t n 0) h (ap isWord e)) (past-leaf t names q end place m)
+heard {t} {names} {s} {end} {place} {q = q} {h} {n} {seen} ok (word e p x) (leaf m) = rw (leaf-goes-on s seen (getD t n 0) h e) (past-leaf t names q end place m)
 heard {s = s} {seen = seen} ok (stop e g) (refused m f) = stop-refused (stops s seen e) f
 heard {s = s} {seen = seen} ok (asked e g i) (refused m f) = stop-refused (asks s seen e) f
 heard ok (word e p x) (refused m f) = no-refusal e f
@@ -149,17 +121,17 @@ heard {s = s} {seen = seen} ok (stop e g) (said m f k r) = no-word f (stops s se
 heard {s = s} {seen = seen} ok (asked e g i) (said m f k r) = no-word f (asks s seen e)
 heard {t} {names} {s} {end} {place} {q = q} ok (word {w = w} e p x) (said {w = u} m f k r) =
     let c = picked k .0 .child in
-    let z : partOf s u ≡ w = ap (partOf s) (same-view e f) ∙ p in
-    by-word t names q end place ok c (rw z at (sym (says t names ok c (partOf s u)) ∙ picked k .1)) (heard ok (hears-on (same-state f e) x) r)
+    let z : partOf s u ≡ w = cc in
+    by-word t names q end place ok c (rw z at (sym (says t names ok c (partOf s u)) ∙ picked k .1)) (heard ok (hears-on e f x) r)
 heard {s = s} {seen = seen} ok (stop e g) (unsaid m f k d r) = no-word f (stops s seen e)
 heard {s = s} {seen = seen} ok (asked e g i) (unsaid m f k d r) = no-word f (asks s seen e)
 heard {t} {names} {s} {end} {place} {q = q} ok (word {w = w} e p x) (unsaid {w = u} {st = at} m f k d r) =
-    let z : partOf s u ≡ w = ap (partOf s) (same-view e f) ∙ p in
-    by-default t names q end place (rw z at (never-said t names ok (partOf s u) k)) ok (picked d .0 .child) (is-default t names ok d) (heard ok (word (again s u at) z (hears-on (same-state f e) x)) r)
+    let z : partOf s u ≡ w = cc in
+    by-default t names q end place (rw z at (never-said t names ok (partOf s u) k)) ok (picked d .0 .child) (is-default t names ok d) (heard ok (word (again s u at) z (hears-on e f x)) r)
 heard {s = s} {seen = seen} ok (stop e g) (unknown m f k d) = no-word f (stops s seen e)
 heard {s = s} {seen = seen} ok (asked e g i) (unknown m f k d) = no-word f (asks s seen e)
 heard {t} {names} {s} {end} {place} {q = q} ok (word {w = w} e p x) (unknown {w = u} m f k d) =
-    let z : partOf s u ≡ w = ap (partOf s) (same-view e f) ∙ p in
+    let z : partOf s u ≡ w = cc in
     unspelled t names q end place (rw z at (never-said t names ok (partOf s u) k)) (never-default t names ok d)
 heard {t} {names} {end = end} {place} ok (stop e g) (ended m f d r) = at-end t names false end place ok (picked d .0 .child) (is-default t names ok d) (heard ok (stop e g) r)
 heard {t} {names} {end = end} {place} ok (asked e g i) (ended m f d r) = at-end t names true end place ok (picked d .0 .child) (is-default t names ok d) (heard ok (asked e g i) r)

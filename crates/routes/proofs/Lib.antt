@@ -7,7 +7,6 @@ pub mod Faultless
 pub mod Hearing
 pub mod Outcomes
 pub mod Saying
-pub mod Unique
 pub mod Worked
 pub mod ResolveOnce
 pub mod SpokenBytes

@@ -3,18 +3,13 @@ use Prim.Native.Nat.{ℕ}
 use mathlib.Core.Path.{_≡_, refl, sym, ap}
 use mathlib.Core.List.{List}
 use native.Mathlib.Omega.{arith}
-use Rattle.error.specs.declared.ErrorCode.{ErrorCode}
 use Rattle.kind.proofs.Tests.{clash}
-use Rattle.table.specs.{Fault.Accepted, Fault.accepts, declared.Checked.Checked}
+use Rattle.table.specs.{Fault.Accepted, Fault.accepts}
 use Rattle.table.proofs.Told.{no-fault}
 use Rattle.routes.proofs.TableClaims.{claims}
 use Rattle.header.proofs.Once.{one-begins}
 use Rattle.tree.specs.Alone.{closing, Resolves, no-branch, too-long, one-header, ResolvesAlone, fault, sound}
 use Rattle.tree.specs.declared.Resolved.{Resolved}
-
-abbrev faultIn : Checked → ErrorCode
-faultIn Checked.Accepted = ErrorCode.SyntaxError
-faultIn (Checked.Fault e) = e
 
 module _ {t names : List ℕ} {b : ℕ} {s : List ℕ} where
   pub one-resolves : (r r′ : Resolved) → Resolves t names b s r → Resolves t names b s r′ → r ≡ r′
@@ -37,6 +32,6 @@ module _ {t names : List ℕ} {b : ℕ} {s : List ℕ} where
   unchecked r r′ a x y = one-resolves r r′ (past-check a x) y
 
   pub one-alone : (r r′ : Resolved) → ResolvesAlone t names b s r → ResolvesAlone t names b s r′ → r ≡ r′
-  one-alone r r′ (fault v) (fault u) = ap (λ (x : Checked). Resolved.Refused (faultIn x)) (claims .one-verdict t names _ _ v u)
+  one-alone r r′ (fault v) (fault u) = cc (claims .one-verdict t names _ _ v u)
   one-alone r r′ (fault v) (sound a y) = unchecked r r′ a (fault v) y
   one-alone r r′ (sound a x) y = sym (unchecked r′ r a y x)

@@ -3,7 +3,7 @@ use Prim.Native.Nat.{ℕ, suc, _≤_, _<_}
 use mathlib.Core.Path.{_≡_, refl, sym, ap, _∙_}
 use mathlib.Core.Logic.{_⊎_, inl, inr}
 use mathlib.Core.List.{List, [], _∷_, _++_}
-use mathlib.Core.Bool.{Bool, true, false, cond, _&&_, and-false, false≢true}
+use mathlib.Core.Bool.{Bool, true, false, cond, _&&_}
 use native.Mathlib.Omega.{arith}
 use lib.Dec.{eqb, ltb}
 use lib.ListN.{length, getD, length-append}
@@ -11,7 +11,7 @@ use borrow.Author.Tests.{eqb-true, lt-ltb}
 use Rattle.error.specs.declared.ErrorCode.the-variants.{UndefinedHeader}
 use Rattle.kind.specs.Text.{ascii}
 use Rattle.kind.specs.Class.{isCapital, isSmall, isLetter}
-use Rattle.kind.proofs.Tests.{clash, less-or-not}
+use Rattle.kind.proofs.Tests.{both-ways, clash, and-right, less-or-not}
 use Rattle.util.specs.Run.{standsAt}
 use Rattle.node.specs.{Word.commandNumber, Tree.branch}
 use Rattle.table.specs.Fault.{Accepted}
@@ -31,28 +31,21 @@ use Rattle.routes.specs.Heard as spoken
 use Rattle.routes.specs.RouteClaims.{Routed, Answers, withBranch, Claims}
 use Rattle.tree.specs.declared.Resolved.{Resolved}
 use Rattle.tree.specs.declared.Resolved.the-variants.{Command, Refused}
-use Rattle.routes.proofs.{Unique.unique, Hearing.heard, SpokenBytes.reads, SpokenBytes.reads-common}
-use Rattle.routes.proofs.Outcomes.{Outcome, routed, lost}
+use Rattle.routes.proofs.{Hearing.heard, SpokenBytes.reads, SpokenBytes.reads-common}
+use Rattle.routes.proofs.Outcomes.{unique, Outcome, routed, lost}
 use Rattle.routes.proofs.Saying.{token-seen, Said, from-there, said}
 use Rattle.routes.proofs.ResolveOnce.{one-resolves, past-check, unchecked, one-alone}
 
--- the first of some words, and another where there is none
-abbrev firstOf : List ℕ → List (List ℕ) → List ℕ
-firstOf w [] = w
-firstOf w (v ∷ words) = v
-
 -- the first of the mnemonics has no star
 first-mnemonic : {first : List ℕ} {words rest : List (List ℕ)} {text : List ℕ} → Joined words text → words ≡ first ∷ rest → Mnemonic first
-first-mnemonic {first} (last m) e = rw (ap (firstOf first) e) at m
-first-mnemonic {first} (before m j) e = rw (ap (firstOf first) e) at m
+first-mnemonic {first} (last {w} m) e = let z : w ≡ first = cc in rw z at m
+first-mnemonic {first} (before {w} m j) e = let z : w ≡ first = cc in rw z at m
 
 no-star : (w : List ℕ) → Mnemonic w → standsAt 42 w 0 ≡ false
 unfolding standsAt isLetter isCapital isSmall
-no-star w m = go (eqb (getD w 0 0) 42) refl
-  where
-    go : (c : Bool) → eqb (getD w 0 0) 42 ≡ c → (ltb 0 (length w) && eqb (getD w 0 0) 42) ≡ false
-    go true e = let z = eqb-true (getD w 0 0) 42 e in absurd (false≢true (rw z at (m .begins)))
-    go false e = rw e (and-false (ltb 0 (length w)))
+no-star w m =
+    both-ways (ltb 0 (length w) && eqb (getD w 0 0) 42) false
+    (λ h. rw (eqb-true (getD w 0 0) 42 (and-right (ltb 0 (length w)) _ h)) at (m .begins)) (λ h. clash h refl)
 
 -- a well-formed header, read from its branch
 module _ (t names : List ℕ) (b : ℕ) (s : List ℕ) (words : List (List ℕ)) (query : Bool) (ok : Tree t names) (m : branch t b ≡ true) where
@@ -95,13 +88,8 @@ data Final {A : Type 0} (found : ℕ → ℕ → A) (no : A) (t names : List ℕ
 
 -- a way to say an answer that tells what was said
 record Telling {A : Type 0} (found : ℕ → ℕ → A) (no : A) : Type 0 where
-  isFound : A → Bool
-  commandIn : A → ℕ
-  keptIn : A → ℕ
-  is-found : (c kept : ℕ) → isFound (found c kept) ≡ true
-  is-not : isFound no ≡ false
-  command-told : (c kept : ℕ) → commandIn (found c kept) ≡ c
-  kept-told : (c kept : ℕ) → keptIn (found c kept) ≡ kept
+  same : {c c′ kept kept′ : ℕ} → found c kept ≡ found c′ kept′ → (c ≡ c′) × (kept ≡ kept′)
+  never : {c kept : ℕ} → found c kept ≡ no → ⊥
 
 module _ {A : Type 0} (found : ℕ → ℕ → A) (no : A) (tell : Telling found no) (t names : List ℕ) (b : ℕ) (words : List (List ℕ)) (ok : Tree t names) where
   one-lead : {c c′ kept kept′ : ℕ} → Leads t names b words c kept → Leads t names b words c′ kept′ → (c ≡ c′) × (kept ≡ kept′)
@@ -109,25 +97,16 @@ module _ {A : Type 0} (found : ℕ → ℕ → A) (no : A) (tell : Telling found
       let z = unique t names ok (x .route) (y .route) in
       (sym (x .command) ∙ ap (λ (k : ℕ). commandNumber (getD t k 0)) (z .1) ∙ y .command, z .2)
 
-  not-both-ways : {B : Type 0} {c kept : ℕ} → found c kept ≡ no → B
-  not-both-ways {c = c} {kept} e = clash (tell .is-found c kept) (ap (tell .isFound) e ∙ tell .is-not)
-
-  same-lead : {c c′ kept kept′ : ℕ} → found c kept ≡ found c′ kept′ → Leads t names b words c kept → Leads t names b words c′ kept′
-  same-lead {c} {c′} {kept} {kept′} e x =
-      let p : c ≡ c′ = sym (tell .command-told c kept) ∙ ap (tell .commandIn) e ∙ tell .command-told c′ kept′ in
-      let q : kept ≡ kept′ = sym (tell .kept-told c kept) ∙ ap (tell .keptIn) e ∙ tell .kept-told c′ kept′ in
-      rw (p, q) at x
-
   is-lead : {r : A} → Final found no t names b words r → (c kept : ℕ) → r ≡ found c kept → Leads t names b words c kept
-  is-lead (leads x) c kept e = same-lead e x
-  is-lead (fails n) c kept e = not-both-ways (sym e)
+  is-lead (leads x) c kept e = let z = tell .same e in rw (z .0, z .1) at x
+  is-lead (fails n) c kept e = absurd (tell .never (sym e))
 
   gets : {r : A} → Final found no t names b words r → (c kept : ℕ) → Leads t names b words c kept → r ≡ found c kept
   gets (leads x) c kept y = let z = one-lead x y in rw (z .0, z .1)
   gets (fails n) c kept y = absurd (n c kept y)
 
   no-lead : {r : A} → Final found no t names b words r → r ≡ no → (c kept : ℕ) → Leads t names b words c kept → ⊥
-  no-lead (leads x) e = not-both-ways e
+  no-lead (leads x) e = absurd (tell .never e)
   no-lead (fails n) e = n
 
   is-undefined : {r : A} → Final found no t names b words r → ((c kept : ℕ) → Leads t names b words c kept → ⊥) → r ≡ no
@@ -150,34 +129,10 @@ module _ {A : Type 0} (found : ℕ → ℕ → A) (no : A) (tell : Telling found
 -- a header's answer, and that of resolution alone, tell what they say
 
 header-tells : (query : Bool) (end : Stop) (place : ℕ) → Telling (λ c kept. Header.Found c query kept end place) (Header.Refused UndefinedHeader)
-header-tells query end place = record { isFound = isFound; commandIn = commandIn; keptIn = keptIn; is-found = λ c kept. refl; is-not = refl; command-told = λ c kept. refl; kept-told = λ c kept. refl }
-  where
-    isFound : Header → Bool
-    isFound (Header.Found c q kept x at) = true
-    isFound (Header.Refused e) = false
-
-    commandIn : Header → ℕ
-    commandIn (Header.Found c q kept x at) = c
-    commandIn (Header.Refused e) = 0
-
-    keptIn : Header → ℕ
-    keptIn (Header.Found c q kept x at) = kept
-    keptIn (Header.Refused e) = 0
+header-tells query end place = record { same = λ e. (cc, cc); never = λ e. let z : _≡_ {A = ℕ} 0 1 = cc in omega arith }
 
 alone-tells : (query : Bool) → Telling (λ c kept. Command c query kept) (Refused UndefinedHeader)
-alone-tells query = record { isFound = isFound; commandIn = commandIn; keptIn = keptIn; is-found = λ c kept. refl; is-not = refl; command-told = λ c kept. refl; kept-told = λ c kept. refl }
-  where
-    isFound : Resolved → Bool
-    isFound (Command c q kept) = true
-    isFound (Refused e) = false
-
-    commandIn : Resolved → ℕ
-    commandIn (Command c q kept) = c
-    commandIn (Refused e) = 0
-
-    keptIn : Resolved → ℕ
-    keptIn (Command c q kept) = kept
-    keptIn (Refused e) = 0
+alone-tells query = record { same = λ e. (cc, cc); never = λ e. let z : _≡_ {A = ℕ} 0 1 = cc in omega arith }
 
 -- a header that is heard, and the whole text that it is
 module _ (t names : List ℕ) (words : List (List ℕ)) (query : Bool) where
@@ -252,7 +207,7 @@ star-first : (s word : List ℕ) (query : Bool) → Common s word query → {fir
     → standsAt 42 first 0 ≡ true
 unfolding standsAt
 star-first s word query f {first} e =
-    let z : first ≡ 42 ∷ f .mnemonic = sym (ap (firstOf first) e) ∙ f .starred in
+    let z : first ≡ 42 ∷ f .mnemonic = cc in
     rw (z, lt-ltb 0 (suc (length (f .mnemonic))) (omega arith))
 
 module _ (t names : List ℕ) (b : ℕ) (s word : List ℕ) (query : Bool) (ok : Tree t names) (m : branch t b ≡ true) (f : Common s word query) where

@@ -1,7 +1,7 @@
 -- The tokens of a well-formed header are heard as its words.
 use Prim.Native.Nat.{ℕ}
 use mathlib.Core.Path.{_≡_, refl, ap, _∙_}
-use mathlib.Core.List.{List, [], _∷_}
+use mathlib.Core.List.{List, _∷_}
 use mathlib.Core.Bool.{Bool}
 use Rattle.token.specs.{View.partOf, declared.View.View, declared.Token.Token}
 use Rattle.tokenizer.specs.{Step.step, declared.State.State}
@@ -48,39 +48,13 @@ module _ {s : List ℕ} {words : List (List ℕ)} {q : Bool} where
       rw (x .parts)
       (word (ap (atBranch s (seen .state)) e ∙ ap (wordBehind ((seenAt s (seen .state)) .state)) (x .there)) (x .shows) (x .hears))
 
+say : {s : List ℕ} {q : Bool} {st : State} {first : List ℕ} {rest : List (List ℕ)} {view : View} {last : ℕ} → (seenAt s st) .ahead ≡ ahead.Word view
+    → partOf s view ≡ first → Hears s end.Text last rest q (seenAt s ((seenAt s st) .state)) → Said s (first ∷ rest) q st
+say {first = first} {rest} {view} {last} e p h = record { first = first; rest = rest; view = view; last = last; parts = refl; there = e; shows = p; hears = h }
+
 pub said : {s : List ℕ} {words : List (List ℕ)} {q : Bool} {tokens : List Token} {st : State} → Shown s words q tokens → Tokens s st tokens → Said s words q st
 unfolding seenAt
-said {s} {st = st} (event {v} {w} p) (next e (no-more f)) =
-    record {
-      first = w;
-      rest = [];
-      view = v;
-      last = (step s ((step s st) .state)) .state .place;
-      parts = refl;
-      there = token-seen s st e;
-      shows = p;
-      hears = stop (end-seen s ((step s st) .state) f) refl;
-    }
-said {s} {st = st} (query {v} {w} p) (next e (next f (no-more g))) =
-    record {
-      first = w;
-      rest = [];
-      view = v;
-      last = (step s ((step s ((step s st) .state)) .state)) .state .place;
-      parts = refl;
-      there = token-seen s st e;
-      shows = p;
-      hears = asked (token-seen s ((step s st) .state) f) (end-seen s ((step s ((step s st) .state)) .state) g) refl;
-    }
-said {s} {st = st} (then {v} {w} {words} p x) (next e (next f y)) =
-    let z = said x y in
-    record {
-      first = w;
-      rest = words;
-      view = v;
-      last = z .last;
-      parts = refl;
-      there = token-seen s st e;
-      shows = p;
-      hears = from-colon (token-seen s ((step s st) .state) f) z;
-    }
+said {s} {st = st} (event p) (next e (no-more f)) = say (token-seen s st e) p (stop (end-seen s ((step s st) .state) f) refl)
+said {s} {st = st} (query p) (next e (next f (no-more g))) =
+    say (token-seen s st e) p (asked (token-seen s ((step s st) .state) f) (end-seen s ((step s ((step s st) .state)) .state) g) refl)
+said {s} {st = st} (then p x) (next e (next f y)) = say (token-seen s st e) p (from-colon (token-seen s ((step s st) .state) f) (said x y))

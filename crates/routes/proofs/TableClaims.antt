@@ -4,7 +4,6 @@ use mathlib.Core.Path.{_≡_, refl, sym, ap, _∙_}
 use mathlib.Core.Logic.{_⊎_, inl, inr}
 use mathlib.Core.List.{List, [], _∷_}
 use mathlib.Core.Bool.{Bool, true, false, cond}
-use native.Mathlib.Decide.{ℕ-discrete}
 use native.Mathlib.Omega.{arith}
 use lib.Dec.{eqb}
 use lib.IntN.{pos}
@@ -18,7 +17,7 @@ use Rattle.table.specs.Fault.{Fault, node-count, node-fields, child-blocks, nod
 use Rattle.table.specs.{Internal.Ready, declared.Checked.Checked}
 use Rattle.routes.specs.TableClaims.{Tree, rootAlone, Claims}
 use Rattle.layout.proofs.{Blocks.in-table, NodeNames.name-of}
-use Rattle.table.proofs.Shape.{holder-of, one-holder, child-after, child-in, near-in}
+use Rattle.table.proofs.Shape.{equal, holder-of, one-holder, child-after, child-in, near-in}
 use Rattle.table.proofs.{Shared.one-default, Theorem.enough}
 
 module _ (t names : List ℕ) (ok : Accepted t names) where
@@ -38,14 +37,10 @@ module _ (t names : List ℕ) (ok : Accepted t names) where
       go false e = absurd (ok .faultless ErrorCode.NodeFields 2 (node-fields (root-no-branch e)))
 
   apart : {b k j : ℕ} → Near t b k → Near t b j → (w : List ℕ) → spells (nameOf t names k) w ≡ true → spells (nameOf t names j) w ≡ true → k ≡ j
-  apart {b} {k} {j} x y w p q = go (ℕ-discrete k j)
-    where
-      go : Dec (k ≡ j) → k ≡ j
-      go (yes e) = e
-      go (no e) =
-          absurd
-          (ok .faultless ErrorCode.SharedSpelling 6
-          (shared-spelling (record { holder = b; one = k; other = j; near-one = x; near-other = y; two = e; shared = record { word = w; one = p; other = q } })))
+  apart {b} {k} {j} x y w p q =
+      equal k j
+      (λ e. ok .faultless ErrorCode.SharedSpelling 6
+      (shared-spelling (record { holder = b; one = k; other = j; near-one = x; near-other = y; two = e; shared = record { word = w; one = p; other = q } })))
 
   tree : Tree t names
   tree =
@@ -106,10 +101,7 @@ no-blocks : ChildBlocks alone → ⊥
 unfolding behind isBranch firstChild childCount
 no-blocks (not-behind b m n) = let e = only-root b (in-table alone b m) in n (rw e)
 no-blocks (not-to-end n) = n refl
-no-blocks (too-early b m l) =
-    let e = only-root b (in-table alone b m) in
-    let k : 1 ≤ 0 = rw e at l in
-    omega arith
+no-blocks (too-early b m l) = let e = only-root b (in-table alone b m) in let k : 1 ≤ 0 = rw e at l in omega arith
 
 no-count : NodeCount alone → ⊥
 no-count (no-node h) = omega (arith, h)

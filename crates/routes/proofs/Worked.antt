@@ -1,9 +1,10 @@
 -- The worked tree.
 use Prim.Native.Nat.{ℕ, _+_}
 use mathlib.Core.Path.{_≡_, refl}
-use mathlib.Core.List.{[], _∷_}
+use mathlib.Core.List.{List, [], _∷_}
 use mathlib.Core.Bool.{true, false}
 use lib.Dec.{leb, ltb}
+use lib.ListN.{getD}
 use borrow.Author.Tests.{leb-true, ltb-true}
 use Rattle.kind.specs.Text.{ascii}
 use Rattle.kind.specs.Class.{isCapital, isSmall, isDigit, isLetter, inMnemonic}
@@ -12,7 +13,7 @@ use Rattle.mnemonic.specs.Mnemonic.{pairs, folded, eitherCase, notSmall, lastEn
 use Rattle.mnemonic.specs.Spelling.{spells}
 use Rattle.node.specs.Word.{isBranch, isDefault, nameLength, nameStart, firstChild, commandNumber, childCount, nameIn}
 use Rattle.node.specs.Tree.{branch, first, count, Child}
-use Rattle.routes.specs.Route.{by-word, silent, here, said, unsaid}
+use Rattle.routes.specs.Route.{Stage, Route, here, said, unsaid}
 use Rattle.tree.specs.{Alone.ResolvesAlone, declared.Resolved.Resolved, declared.Resolved.the-variants.Command}
 use Rattle.routes.specs.WellFormed.{last, WellFormed}
 use Rattle.routes.specs.Worked.{nodes, names, Here, Worked}
@@ -22,18 +23,14 @@ use Rattle.routes.proofs.{Faultless.accepted, RouteClaims.claims}
 child : (b k : ℕ) → branch nodes b ≡ true → leb (first nodes b) k ≡ true → ltb k (first nodes b + count nodes b) ≡ true → Child nodes b k
 child b k m l u = record { holder = m; from = leb-true _ _ l; below = ltb-true _ _ u }
 
+way : {b : ℕ} {words : List (List ℕ)} {c kept leaf : ℕ} {stages : List Stage} → Route nodes names b b words stages leaf kept
+    → commandNumber (getD nodes leaf 0) ≡ c → Here b words c kept
+way {leaf = leaf} {stages} r e = record { stages = stages; leaf = leaf; route = r; command = e }
+
 -- SENSe and DC unsaid
 voltage : Here 0 (ascii "VOLT" ∷ []) 6 3
 unfolding isBranch isDefault nameLength nameStart firstChild commandNumber childCount nameIn spells pairs folded eitherCase notSmall lastEnd numericSuffixStart sameNumericSuffix run every isCapital isSmall isDigit
-voltage =
-    record {
-      stages = silent 3 ∷ by-word 7 ∷ silent 9 ∷ [];
-      leaf = 9;
-      route =
-          unsaid (child 0 3 refl refl refl) refl
-          (said (child 3 7 refl refl refl) refl (unsaid (child 7 9 refl refl refl) refl (here refl)));
-      command = refl;
-    }
+voltage = way (unsaid (child 0 3 refl refl refl) refl (said (child 3 7 refl refl refl) refl (unsaid (child 7 9 refl refl refl) refl (here refl)))) refl
 
 well-formed : WellFormed (ascii "VOLT") false (ascii "VOLT" ∷ []) false
 unfolding isCapital isSmall isLetter isDigit inMnemonic every
@@ -55,35 +52,12 @@ unfolding isBranch isDefault nameLength nameStart firstChild commandNumber child
 worked =
     record {
       accepted = accepted;
-      route-close =
-          record {
-            stages = by-word 2 ∷ by-word 5 ∷ [];
-            leaf = 5;
-            route = said (child 0 2 refl refl refl) refl (said (child 2 5 refl refl refl) refl (here refl));
-            command = refl;
-          };
-      open-from-route =
-          record { stages = by-word 6 ∷ []; leaf = 6; route = said (child 2 6 refl refl refl) refl (here refl); command = refl };
-      identify = record { stages = by-word 1 ∷ []; leaf = 1; route = said (child 0 1 refl refl refl) refl (here refl); command = refl };
+      route-close = way (said (child 0 2 refl refl refl) refl (said (child 2 5 refl refl refl) refl (here refl))) refl;
+      open-from-route = way (said (child 2 6 refl refl refl) refl (here refl)) refl;
+      identify = way (said (child 0 1 refl refl refl) refl (here refl)) refl;
       voltage = voltage;
       voltage-text = voltage-text;
-      voltage-dc =
-          record {
-            stages = silent 3 ∷ by-word 7 ∷ by-word 9 ∷ [];
-            leaf = 9;
-            route =
-                unsaid (child 0 3 refl refl refl) refl
-                (said (child 3 7 refl refl refl) refl (said (child 7 9 refl refl refl) refl (here refl)));
-            command = refl;
-          };
-      sense-voltage =
-          record {
-            stages = by-word 3 ∷ by-word 7 ∷ silent 9 ∷ [];
-            leaf = 9;
-            route =
-                said (child 0 3 refl refl refl) refl
-                (said (child 3 7 refl refl refl) refl (unsaid (child 7 9 refl refl refl) refl (here refl)));
-            command = refl;
-          };
-      ac-two = record { stages = by-word 10 ∷ []; leaf = 10; route = said (child 7 10 refl refl refl) refl (here refl); command = refl };
+      voltage-dc = way (unsaid (child 0 3 refl refl refl) refl (said (child 3 7 refl refl refl) refl (said (child 7 9 refl refl refl) refl (here refl)))) refl;
+      sense-voltage = way (said (child 0 3 refl refl refl) refl (said (child 3 7 refl refl refl) refl (unsaid (child 7 9 refl refl refl) refl (here refl)))) refl;
+      ac-two = way (said (child 7 10 refl refl refl) refl (here refl)) refl;
     }

@@ -12,13 +12,18 @@ use mir.Val.{Fits}
 use borrow.Author.Needs.{needs}
 use borrow.Author.Tests.{not-true, not-false, leb-true, lt-leb, le-leb, lt-ltb, eq-eqb, ne-eqb, eqb-true}
 use Rattle.kind.specs.Class.{is, isCapital, isSmall, isDigit, isLetter, inMnemonic}
-use Rattle.kind.proofs.Tests.{both-ways, either, or-left, or-right, clash, and-left, and-right, and-both, less-or-not}
+use Rattle.kind.proofs.Tests.{both-ways, by-test, either, or-left, or-right, clash, and-left, and-right, and-both, less-or-not}
 use Rattle.kind.proofs.Classes.{small-no-capital, small-no-digit, capital-no-digit, under}
 use Rattle.util.specs.Run.{standsAt}
 use Rattle.mnemonic.specs.Mnemonic.{folded, eitherCase}
 use Rattle.spoken.specs.Spoken.{letterAt}
 use Rattle.spoken.specs.Internal.{agrees, beginAlike, goesOnAt, departsAt, oneAdded}
 use Rattle.spoken.specs.declared.Spelled.the-variants as spelled
+
+-- what holds however a test goes
+pub by-bool : {A : Type 0} (c : Bool) → (c ≡ true → A) → (c ≡ false → A) → A
+by-bool true f g = f refl
+by-bool false f g = g refl
 
 -- the byte at a place
 
@@ -30,21 +35,13 @@ pub ruleset byte-laws = (needs, byte-past′)
 -- a letter and the same one in either case
 
 module _ (c : ℕ) where
-  small-low : isSmall c ≡ true → 97 ≤ c
+  small-span : isSmall c ≡ true → (97 ≤ c) × (c ≤ 122)
   unfolding isSmall
-  small-low e = leb-true 97 c (and-left (leb 97 c) (leb c 122) e)
+  small-span e = (leb-true 97 c (and-left (leb 97 c) _ e), leb-true c 122 (and-right (leb 97 c) _ e))
 
-  small-high : isSmall c ≡ true → c ≤ 122
-  unfolding isSmall
-  small-high e = leb-true c 122 (and-right (leb 97 c) (leb c 122) e)
-
-  capital-low : isCapital c ≡ true → 65 ≤ c
+  capital-span : isCapital c ≡ true → (65 ≤ c) × (c ≤ 90)
   unfolding isCapital
-  capital-low e = leb-true 65 c (and-left (leb 65 c) (leb c 90) e)
-
-  capital-high : isCapital c ≡ true → c ≤ 90
-  unfolding isCapital
-  capital-high e = leb-true c 90 (and-right (leb 65 c) (leb c 90) e)
+  capital-span e = (leb-true 65 c (and-left (leb 65 c) _ e), leb-true c 90 (and-right (leb 65 c) _ e))
 
   capital-range : 65 ≤ c → c ≤ 90 → isCapital c ≡ true
   unfolding isCapital
@@ -80,29 +77,21 @@ one-letter c d e = eq-eqb (folded c) (folded d) (ap folded e)
 
 small-other : (c d : ℕ) → isSmall c ≡ true → (c ≡ d → ⊥) → eqb (c - 32) d ≡ eitherCase c d
 unfolding eitherCase folded
-small-other c d e n = rw (small-no-capital c e) (go (isCapital d) refl)
-  where
-    low : 97 ≤ c
-    low = small-low c e
-
-    high : c ≤ 122
-    high = small-high c e
-
-    go : (r : Bool) → isCapital d ≡ r → eqb (c - 32) d ≡ eqb c (cond r (d + 32) d)
-    go true f =
-        both-ways (eqb (c - 32) d) (eqb c (d + 32)) (λ h. eq-eqb c (d + 32) (omega (arith, low, eqb-true (c - 32) d h)))
-        (λ h. eq-eqb (c - 32) d (omega (arith, low, eqb-true c (d + 32) h)))
-    go false f = ne-eqb (c - 32) d (λ h. clash (capital-range d (omega (arith, low, h)) (omega (arith, high, h))) f) ∙ sym (ne-eqb c d n)
+small-other c d e n =
+    let span = small-span c e in
+    rw (small-no-capital c e)
+    (by-test (λ (k : ℕ). eqb (c - 32) d ≡ eqb c k) (isCapital d)
+    (λ f. both-ways (eqb (c - 32) d) (eqb c (d + 32)) (λ h. eq-eqb c (d + 32) (omega (arith, span .0, eqb-true (c - 32) d h)))
+    (λ h. eq-eqb (c - 32) d (omega (arith, span .0, eqb-true c (d + 32) h))))
+    (λ f. ne-eqb (c - 32) d (λ h. clash (capital-range d (omega (arith, span .0, h)) (omega (arith, span .1, h))) f) ∙ sym (ne-eqb c d n)))
 
 capital-other : (c d : ℕ) → isCapital c ≡ true → (c ≡ d → ⊥) → eqb (c + 32) d ≡ eitherCase c d
 unfolding eitherCase folded
-capital-other c d e n = rw e (go (isCapital d) refl)
-  where
-    go : (r : Bool) → isCapital d ≡ r → eqb (c + 32) d ≡ eqb (c + 32) (cond r (d + 32) d)
-    go true f =
-        ne-eqb (c + 32) d (λ h. omega (arith, h, capital-low c e, capital-high d f))
-        ∙ sym (ne-eqb (c + 32) (d + 32) (λ h. n (omega (arith, h))))
-    go false f = refl
+capital-other c d e n =
+    rw e
+    (by-test (λ (k : ℕ). eqb (c + 32) d ≡ eqb (c + 32) k) (isCapital d)
+    (λ f. ne-eqb (c + 32) d (λ h. omega (arith, h, capital-span c e .0, capital-span d f .1)) ∙ sym (ne-eqb (c + 32) (d + 32) (λ h. n (omega (arith, h)))))
+    (λ f. refl))
 
 module _ (small : Bool) (c d : ℕ) (r : Bool) where
   module _ (k : small ≡ true) (e : r ≡ isSmall c) where
@@ -112,7 +101,7 @@ module _ (small : Bool) (c d : ℕ) (r : Bool) where
 
     module _ (q : not r ≡ false) where
       pub from-small′ : 32 ≤ c
-      from-small′ = omega (arith, small-low c (sym e ∙ not-false r q))
+      from-small′ = omega (arith, small-span c (sym e ∙ not-false r q) .0)
 
       pub small-same′ : c ≡ d → true ≡ agrees small c d
       unfolding agrees
@@ -129,7 +118,7 @@ module _ (small : Bool) (c d : ℕ) (r : Bool) where
 
     module _ (q : not r ≡ false) where
       pub from-capital′ : Fits w8 (c + 32)
-      from-capital′ = record { fits = omega (arith, capital-high c (sym e ∙ not-false r q)) }
+      from-capital′ = record { fits = omega (arith, capital-span c (sym e ∙ not-false r q) .1) }
 
       pub capital-same′ : c ≡ d → true ≡ agrees small c d
       unfolding agrees
@@ -163,19 +152,15 @@ pub ruleset begin-laws = (needs, both-letter′, no-star′, both-star′)
 
 letter-folds : (c : ℕ) → isLetter c ≡ true → (97 ≤ folded c) × (folded c ≤ 122)
 unfolding folded isLetter
-letter-folds c e = go (either (isCapital c) (isSmall c) e)
-  where
-    go : (isCapital c ≡ true) ⊎ (isSmall c ≡ true) → (97 ≤ folded c) × (folded c ≤ 122)
-    go (inl h) = rw h (omega (arith, capital-low c h), omega (arith, capital-high c h))
-    go (inr h) = rw (small-no-capital c h) (small-low c h, small-high c h)
+letter-folds c e =
+    ⊎-elim (λ h. rw h (omega (arith, capital-span c h .0), omega (arith, capital-span c h .1)))
+    (λ h. rw (small-no-capital c h) (small-span c h)) (either (isCapital c) (isSmall c) e)
 
 folds-letter : (d : ℕ) → 97 ≤ folded d → folded d ≤ 122 → isLetter d ≡ true
 unfolding folded isLetter
-folds-letter d l h = go (isCapital d) refl l h
-  where
-    go : (r : Bool) → isCapital d ≡ r → 97 ≤ cond r (d + 32) d → cond r (d + 32) d ≤ 122 → (isCapital d || isSmall d) ≡ true
-    go true e l h = or-left (isSmall d) e
-    go false e l h = or-right (isCapital d) (small-range d l h)
+folds-letter d =
+    by-test (λ (k : ℕ). 97 ≤ k → k ≤ 122 → (isCapital d || isSmall d) ≡ true) (isCapital d)
+    (λ e l h. or-left (isSmall d) e) (λ e l h. or-right (isCapital d) (small-range d l h))
 
 pub case-letter : (c d : ℕ) → isLetter c ≡ true → eitherCase c d ≡ true → isLetter d ≡ true
 unfolding eitherCase
@@ -186,11 +171,7 @@ case-letter c d l e =
 
 -- a letter is no other character
 pub letter-apart : (c d : ℕ) → isLetter c ≡ true → isLetter d ≡ false → eitherCase c d ≡ false
-letter-apart c d l n = go (eitherCase c d) refl
-  where
-    go : (r : Bool) → eitherCase c d ≡ r → r ≡ false
-    go true e = clash (case-letter c d l e) n
-    go false e = refl
+letter-apart c d l n = both-ways (eitherCase c d) false (λ e. clash (case-letter c d l e) n) (λ e. clash e refl)
 
 pub none-apart : (d : ℕ) → isLetter d ≡ true → eitherCase 0 d ≡ false
 unfolding eitherCase folded isCapital
@@ -205,8 +186,8 @@ digit-apart c d e n = ne-eqb (folded c) (folded d) (λ f. go (isCapital c) refl 
     high = leb-true c 57 (and-right (leb 48 c) (leb c 57) e)
 
     go : (a : Bool) → isCapital c ≡ a → (b : Bool) → isCapital d ≡ b → cond a (c + 32) c ≡ cond b (d + 32) d → ⊥
-    go true p b q f = omega (arith, high, capital-low c p)
-    go false p true q f = omega (arith, high, capital-low d q, f)
+    go true p b q f = omega (arith, high, capital-span c p .0)
+    go false p true q f = omega (arith, high, capital-span d q .0, f)
     go false p false q f = n (sym f)
 
 module _ (small : Bool) (c d : ℕ) (e : agrees small c d ≡ true) where
@@ -219,11 +200,7 @@ module _ (small : Bool) (c d : ℕ) (e : agrees small c d ≡ true) where
   agreed-case = and-right (cond small (isSmall c) (isCapital c)) (eitherCase c d) e
 
   pub agreed-first : isLetter c ≡ true
-  agreed-first = go small agreed-class
-    where
-      go : (b : Bool) → cond b (isSmall c) (isCapital c) ≡ true → isLetter c ≡ true
-      go true h = small-letter c h
-      go false h = capital-letter c h
+  agreed-first = by-test (λ (b : Bool). b ≡ true → isLetter c ≡ true) small (λ _. small-letter c) (λ _. capital-letter c) agreed-class
 
   pub agreed-letter : isLetter d ≡ true
   agreed-letter = case-letter c d agreed-first agreed-case

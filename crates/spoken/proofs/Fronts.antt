@@ -1,7 +1,7 @@
 -- Laws of the letters that a name and a text have alike, as the code meets them.
 use Prim.Native.Nat.{ℕ, suc, _+_, _-_, _*_, _^_, _≤_, _<_}
 use mathlib.Core.Path.{_≡_, refl, sym, ap, _∙_}
-use mathlib.Core.Logic.{_⊎_, inl, inr}
+use mathlib.Core.Logic.{_⊎_, inl, inr, ⊎-elim}
 use mathlib.Core.List.{List, [], _∷_, _++_}
 use mathlib.Core.Bool.{Bool, true, false, not, cond}
 use native.Mathlib.Omega.{arith}
@@ -13,7 +13,7 @@ use mir.Val.{Fits}
 use borrow.Author.Needs.{needs}
 use borrow.Author.Tests.{not-true, not-false}
 use Rattle.kind.specs.Class.{isCapital, isSmall, isLetter}
-use Rattle.kind.proofs.Tests.{and-both}
+use Rattle.kind.proofs.Tests.{by-test, and-both}
 use Rattle.util.specs.Run.{least, every}
 use Rattle.util.proofs.Runs.{least-le, not-least}
 use Rattle.mnemonic.specs.Mnemonic.{alike, pairs}
@@ -37,11 +37,8 @@ module _ (r : ℕ → ℕ → Bool) (x s : List ℕ) (at i : ℕ) where
   common-past : (length x ≤ i) ⊎ (length s ≤ at + i) → i + common r (drop i x) (drop (at + i) s) ≡ i
   unfolding common
   common-past (inl h) = rw (drop-of-length-le x h) (omega arith)
-  common-past (inr h) = rw (drop-of-length-le s h) (go (drop i x))
-    where
-      go : (y : List ℕ) → i + common r y [] ≡ i
-      go [] = omega arith
-      go (c ∷ y) = omega arith
+  common-past (inr h) =
+      rw (drop-of-length-le s h) (elim (drop i x) as (λ (y : List ℕ). i + common r y [] ≡ i) [ [] ↦ omega arith | c ∷ y ↦ omega arith ])
 
 -- what the loop keeps: the letters before i are passed
 abbrev pub Gone : Bool → List ℕ → List ℕ → ℕ → ℕ → ℕ → Type 0
@@ -73,11 +70,8 @@ module _ (small : Bool) (x s : List ℕ) (at from : ℕ) (fits : at + from ≤ l
       letters-more′ q = inv ∙ common-more (agrees small) x s at i (name-holds′ h) (text-holds′ h) (sym er ∙ not-false r q)
 
     pub letters-past′ : end ≤ i → i ≡ from + common (agrees small) (drop from x) (drop (at + from) s)
-    letters-past′ h = sym (inv ∙ common-past (agrees small) x s at i (go (not-least (length x) (length s - at) i (omega (arith, h, e)))))
-      where
-        go : (length x ≤ i) ⊎ (length s - at ≤ i) → (length x ≤ i) ⊎ (length s ≤ at + i)
-        go (inl z) = inl z
-        go (inr z) = inr (omega (arith, z, fits))
+    letters-past′ h =
+        sym (inv ∙ common-past (agrees small) x s at i (⊎-elim inl (λ z. inr (omega (arith, z, fits))) (not-least (length x) (length s - at) i (omega (arith, h, e)))))
 
 pub ruleset letters-laws = (needs, at-fits′, letters-begin′, name-holds′, text-holds′, place-fits′, letters-stop′, letters-more′, letters-past′)
 
@@ -124,8 +118,4 @@ pub common-within : (r : ℕ → ℕ → Bool) (x y : List ℕ) → common r x y
 unfolding common
 common-within r [] y = omega arith
 common-within r (c ∷ x) [] = omega arith
-common-within r (c ∷ x) (d ∷ y) = go (r c d) (common-within r x y)
-  where
-    go : (b : Bool) → common r x y ≤ length y → cond b (suc (common r x y)) 0 ≤ suc (length y)
-    go true h = omega (arith, h)
-    go false h = omega arith
+common-within r (c ∷ x) (d ∷ y) = by-test (λ (k : ℕ). k ≤ suc (length y)) (r c d) (λ _. omega (arith, common-within r x y)) (λ _. omega arith)

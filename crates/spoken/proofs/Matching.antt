@@ -10,7 +10,7 @@ use lib.ListN.{length, getD, take, drop, length-append}
 use lib.Seq.{take-length, take-append-seam, drop-append-seam, take-append-add, drop-append-add}
 use borrow.Author.Tests.{eqb-true, ne-eqb}
 use Rattle.kind.specs.Class.{isCapital, isSmall, isDigit, isLetter}
-use Rattle.kind.proofs.Tests.{either, or-left, or-right, and-left, and-right, and-both, clash}
+use Rattle.kind.proofs.Tests.{both-ways, by-test, either, or-left, or-right, and-left, and-right, and-both, clash}
 use Rattle.util.specs.Run.{every}
 use Rattle.util.proofs.Every.{every-join, every-second, every-weaker}
 use Rattle.mnemonic.specs.Mnemonic.{pairs, eitherCase, alike, notSmall, mayLeaveOut, compares, lastEnd, numericSuffixStart, sameNumericSuffix, matches}
@@ -19,7 +19,7 @@ use Rattle.mnemonic.proofs.Pairs.{long, differ}
 use Rattle.mnemonic.proofs.Match.{none-some′, some-none′, some-some′}
 use Rattle.names.proofs.Alike.{Ends, ends-behind, suffix-itself, start-behind}
 use Rattle.spoken.specs.Internal.{opens, Form, short-form, long-form}
-use Rattle.spoken.proofs.Bytes.{letter-no-digit, one-letter, small-letter, letter-apart, digit-apart}
+use Rattle.spoken.proofs.Bytes.{by-bool, letter-no-digit, one-letter, small-letter, letter-apart, digit-apart}
 
 capital : (c : ℕ) → isLetter c ≡ true → isSmall c ≡ false → isCapital c ≡ true
 unfolding isLetter
@@ -33,35 +33,21 @@ letter-unlike c a (e ∷ b) (suc k) l n = rw (letter-apart c e l n)
 
 -- texts alike before others
 
-alike-itself : (x : List ℕ) → alike x x ≡ true
-unfolding pairs
-alike-itself [] = refl
-alike-itself (c ∷ x) = and-both (one-letter c c refl) (alike-itself x)
-
 pub alike-after : (u v x y : List ℕ) → alike u v ≡ true → alike (u ++ x) (v ++ y) ≡ alike x y
 unfolding pairs
 alike-after [] [] x y h = refl
 alike-after [] (d ∷ v) x y h = absurd (false≢true h)
 alike-after (c ∷ u) [] x y h = absurd (false≢true h)
-alike-after (c ∷ u) (d ∷ v) x y h =
-    rw (and-left (eitherCase c d) (pairs eitherCase u v) h) (alike-after u v x y (and-right (eitherCase c d) (pairs eitherCase u v) h))
+alike-after (c ∷ u) (d ∷ v) x y h = rw (and-left (eitherCase c d) _ h) (alike-after u v x y (and-right (eitherCase c d) _ h))
 
 -- what is not of a class is not all of it
 pub not-all : (p : ℕ → Bool) (u z : List ℕ) → every p z ≡ false → every p (u ++ z) ≡ false
-not-all p u z h = go (every p (u ++ z)) refl
-  where
-    go : (b : Bool) → every p (u ++ z) ≡ b → b ≡ false
-    go true e = clash (every-second p u z e) h
-    go false e = refl
+not-all p u z h = both-ways (every p (u ++ z)) false (λ e. clash (every-second p u z e) h) (λ e. clash e refl)
 
 not-first : (p : ℕ → Bool) (u z : List ℕ) → every p u ≡ false → every p (u ++ z) ≡ false
 unfolding every
 not-first p [] z h = absurd (true≢false h)
-not-first p (b ∷ u) z h = go (p b) (not-first p u z) h
-  where
-    go : (c : Bool) → (every p u ≡ false → every p (u ++ z) ≡ false) → (c && every p u) ≡ false → (c && every p (u ++ z)) ≡ false
-    go true f e = f e
-    go false f e = refl
+not-first p (b ∷ u) z h = by-bool (p b) (λ q. rw q (not-first p u z (rw q at h))) (λ q. rw q)
 
 -- the numeric suffix after a text that ends in no digit
 
@@ -77,19 +63,12 @@ last-after (b ∷ u) z h = rw (not-all isDigit u z h) (omega (arith, last-after 
 
 last-some : (c : ℕ) (a : List ℕ) → isDigit c ≡ false → (m : ℕ) × (lastEnd (c ∷ a) ≡ suc m)
 unfolding lastEnd
-last-some c a e = rw e (go (every isDigit a))
-  where
-    go : (b : Bool) → (m : ℕ) × (cond b 1 (suc (lastEnd a)) ≡ suc m)
-    go true = (0, refl)
-    go false = (lastEnd a, refl)
+last-some c a e = rw e (by-test (λ (k : ℕ). (m : ℕ) × (k ≡ suc m)) (every isDigit a) (λ _. (0, refl)) (λ _. (lastEnd a, refl)))
 
 suffix-start : (u z : List ℕ) → Ends u → numericSuffixStart (u ++ z) ≡ length u + lastEnd z
 unfolding numericSuffixStart
-suffix-start u z e = go (every isDigit z) refl
-  where
-    go : (b : Bool) → every isDigit z ≡ b → numericSuffixStart (u ++ z) ≡ length u + lastEnd z
-    go true h = start-behind u z e h ∙ omega (arith, digits-none z h)
-    go false h = rw (not-all isDigit u z h) (last-after u z h)
+suffix-start u z e =
+    by-bool (every isDigit z) (λ h. start-behind u z e h ∙ omega (arith, digits-none z h)) (λ h. rw (not-all isDigit u z h) (last-after u z h))
 
 letters-end : (c : ℕ) (u : List ℕ) → isDigit c ≡ false → every isLetter u ≡ true → Ends (c ∷ u)
 unfolding every
@@ -193,11 +172,7 @@ module _ (u l v : List ℕ) (same : alike u v ≡ true) (u-opens : opens u ≡ t
   module _ (rest : List ℕ) (form : Form u l rest) where
     smalls : every isSmall l ≡ true
     unfolding every
-    smalls = go form
-      where
-        go : Form u l rest → every isSmall l ≡ true
-        go (short-form p s n) = s
-        go (long-form p s) = rw s
+    smalls = elim form [ short-form p s n ↦ s | long-form p s ↦ rw s ]
 
     name-ends : Ends (u ++ l)
     name-ends = ends-behind u l (opens-end u u-opens) smalls
@@ -265,11 +240,7 @@ module _ (u l v : List ℕ) (same : alike u v ≡ true) (u-opens : opens u ≡ t
         (no-suffix (c ∷ d) c (d ++ (e ∷ r)) no-letter (sym (some-some′ (c ∷ d) (c ∷ (d ++ (e ∷ r))) false (λ k. omega (arith, k)) (λ k. omega (arith, k)) (sym (differ eqb (c ∷ d) (c ∷ (d ++ (e ∷ r))) shorter)))) (lastEnd (c ∷ (d ++ (e ∷ r)))))
       where
         no-letter : isLetter c ≡ false
-        no-letter = go (isLetter c) refl
-          where
-            go : (b : Bool) → isLetter c ≡ b → b ≡ false
-            go true k = clash (and-left (isDigit c) (every isDigit d) h) (letter-no-digit c k)
-            go false k = refl
+        no-letter = both-ways (isLetter c) false (λ k. clash (and-left (isDigit c) (every isDigit d) h) (letter-no-digit c k)) (λ k. clash k refl)
 
         shorter : length (c ∷ d) ≡ length (c ∷ (d ++ (e ∷ r))) → ⊥
         shorter k = omega (arith, k, length-append d (e ∷ r))
@@ -320,6 +291,5 @@ module _ (u l v : List ℕ) (same : alike u v ≡ true) (u-opens : opens u ≡ t
     pub more-added : (e : ℕ) (b : List ℕ) → isLetter e ≡ false → (e ∷ b ≡ 49 ∷ [] → ⊥) → matches ((u ++ l) ++ []) (v ++ (e ∷ b)) ≡ false
     unfolding lastEnd
     more-added e b le n =
-        parts [] (e ∷ b)
-        ∙ rw (longer e b le)
+        parts [] (e ∷ b) ∙ rw (longer e b le)
         (no-suffix [] e b le (sym (none-some′ [] (e ∷ b) false refl (λ k. omega (arith, k)) (sym (not-one e b n)))) (lastEnd (e ∷ b)))

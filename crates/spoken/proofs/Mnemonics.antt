@@ -6,13 +6,13 @@ use mathlib.Core.List.{List, [], _∷_, _++_}
 use mathlib.Core.Bool.{Bool, true, false, cond, _&&_, _||_, and-false, false≢true}
 use native.Mathlib.Omega.{arith}
 use lib.Dec.{eqb, leb, ltb}
-use lib.ListN.{length, getD, take, drop, length-drop, drop-of-length-le}
+use lib.ListN.{length, getD, take, drop, length-append, length-drop, drop-of-length-le}
 use lib.Seq.{drop-cons, drop-drop, getD-drop, length-take-le, take-append-add}
 use borrow.Author.Needs.{needs}
 use borrow.Author.Tests.{leb-false, le-leb, lt-leb, lt-ltb, le-ltb, ltb-true}
 use Rattle.error.specs.{declared.ErrorCode.ErrorCode, declared.ErrorCode.the-variants.ProgramMnemonicTooLong}
 use Rattle.kind.specs.Class.{isLetter, inMnemonic}
-use Rattle.kind.proofs.Tests.{either, and-left, and-right, and-both, clash, less-or-not}
+use Rattle.kind.proofs.Tests.{by-test, either, and-left, and-right, and-both, clash, less-or-not}
 use Rattle.util.specs.Run.{run, runEnd, standsAt, every}
 use Rattle.util.proofs.Every.{every-weaker, run-within}
 use Rattle.mnemonic.specs.Mnemonic.{matches}
@@ -49,11 +49,7 @@ module _ (s : List ℕ) (at : ℕ) where
   module _ (x : List ℕ) where
     pub unspelled : (ltb at (mnemonicEnd s at) && matches x (partOf s (viewOf at (mnemonicEnd s at)))) ≡ false → spelled.Not ≡ spelledAt x s at
     unfolding spelledAt mnemonic mnemonicEnd
-    unspelled h = go (leb (mnemonicEnd s at - at) 12)
-      where
-        go : (b : Bool) → spelled.Not ≡ spelledAs x s at (cond b (token (ProgramMnemonic (viewOf at (mnemonicEnd s at))) (mnemonicEnd s at)) (refused ProgramMnemonicTooLong))
-        go true = rw h
-        go false = refl
+    unspelled h = by-test (λ (r : Read). spelled.Not ≡ spelledAs x s at r) (leb (mnemonicEnd s at - at) 12) (λ _. rw h) (λ _. refl)
 
     pub too-long : 12 < mnemonicEnd s at - at → spelled.Not ≡ spelledAt x s at
     unfolding spelledAt mnemonic mnemonicEnd
@@ -69,11 +65,7 @@ remainder s p = take (run inMnemonic (drop p s)) (drop p s)
 
 pub goes-in : (s : List ℕ) (p : ℕ) → goesOnAt s p ≡ true → p < length s
 unfolding goesOnAt
-goes-in s p h = go (leb (length s) p) refl h
-  where
-    go : (b : Bool) → leb (length s) p ≡ b → cond b false (inMnemonic (getD s p 0)) ≡ true → p < length s
-    go true e f = absurd (false≢true f)
-    go false e f = leb-false (length s) p e
+goes-in s p h = by-test (λ (b : Bool). b ≡ true → p < length s) (leb (length s) p) (λ _ f. clash f refl) (λ e _. leb-false (length s) p e) h
 
 pub remainder-none : (s : List ℕ) (p : ℕ) → goesOnAt s p ≡ false → remainder s p ≡ []
 unfolding remainder run
@@ -98,13 +90,13 @@ remainder-long s p = length-take-le (run inMnemonic (drop p s)) (drop p s) (run-
 
 -- A mnemonic that begins with the letters v, up to a place.
 module _ (s : List ℕ) (at : ℕ) (v : List ℕ) (place : ℕ) (text : drop at s ≡ v ++ drop place s) (v-opens : opens v ≡ true) where
+  some : 0 < length v
+  unfolding opens
+  some = (elim v as (λ (v : List ℕ). opens v ≡ true → 0 < length v) [ [] ↦ λ o. clash o refl | d ∷ v ↦ λ _. omega arith ]) v-opens
+
   pub begins-in : at < length s
   unfolding opens
-  begins-in = go v text v-opens
-    where
-      go : (v : List ℕ) → drop at s ≡ v ++ drop place s → opens v ≡ true → at < length s
-      go [] e o = absurd (false≢true o)
-      go (d ∷ v) e o = omega (arith, length-drop at s, ap length e)
+  begins-in = omega (arith, some, length-drop at s, simp length-append at (ap length text))
 
   end-is : mnemonicEnd s at ≡ at + (length v + length (remainder s place))
   unfolding opens mnemonicEnd starEnd runEnd standsAt every
@@ -115,7 +107,7 @@ module _ (s : List ℕ) (at : ℕ) (v : List ℕ) (place : ℕ) (text : drop at 
 
       go : (v : List ℕ) → drop at s ≡ v ++ drop place s → opens v ≡ true
           → cond (eqb (getD s at 0) 42) (at + 1) at + run inMnemonic (drop (cond (eqb (getD s at 0) 42) (at + 1) at) s) ≡ at + (length v + run inMnemonic (drop place s))
-      go [] e o = absurd (false≢true o)
+      go [] e o = clash o refl
       go (d ∷ v) e o = rw (first d (v ++ drop place s) e) (by (eqb d 42) refl)
         where
           letters : every inMnemonic v ≡ true
@@ -125,18 +117,7 @@ module _ (s : List ℕ) (at : ℕ) (v : List ℕ) (place : ℕ) (text : drop at 
           by true q = rw (← drop-drop 1 at s, e) (omega (arith, run-after inMnemonic v (drop place s) letters))
           by false q =
               let in-it : inMnemonic d ≡ true = letter-in d (⊎-elim (λ h. h) (λ h. clash h q) (either (isLetter d) (eqb d 42) (and-left (isLetter d || eqb d 42) (every isLetter v) o))) in
-              rw e (omega (arith, run-after inMnemonic (d ∷ v) (drop place s) (both in-it letters)))
-            where
-              both : inMnemonic d ≡ true → every inMnemonic v ≡ true → every inMnemonic (d ∷ v) ≡ true
-              both p q = and-both p q
-
-  some : 0 < length v
-  unfolding opens
-  some = go v v-opens
-    where
-      go : (v : List ℕ) → opens v ≡ true → 0 < length v
-      go [] o = absurd (false≢true o)
-      go (d ∷ v) o = omega arith
+              rw e (omega (arith, run-after inMnemonic (d ∷ v) (drop place s) (and-both in-it letters)))
 
   whole : partOf s (viewOf at (mnemonicEnd s at)) ≡ v ++ remainder s place
   unfolding remainder
@@ -178,15 +159,9 @@ module _ (x s : List ℕ) (at : ℕ) (r : Read) (e : r ≡ mnemonic s at) where
     module _ (l : at < next) where
       next-is : next ≡ mnemonicEnd s at
       unfolding mnemonic mnemonicEnd
-      next-is = go (leb (mnemonicEnd s at - at) 12) (sym q ∙ e)
-        where
-          nextOf : Read → ℕ
-          nextOf (Read.Token t n) = n
-          nextOf (Read.Refused c) = at
-
-          go : (b : Bool) → Read.Token t next ≡ cond b (token (ProgramMnemonic (viewOf at (mnemonicEnd s at))) (mnemonicEnd s at)) (refused ProgramMnemonicTooLong) → next ≡ mnemonicEnd s at
-          go true f = ap nextOf f
-          go false f = absurd (omega (arith, l, ap nextOf f))
+      next-is =
+          by-test (λ (r : Read). Read.Token t next ≡ r → next ≡ mnemonicEnd s at) (leb (mnemonicEnd s at - at) 12) (λ _ f. cc)
+          (λ _ f. let z : _≡_ {A = ℕ} 0 1 = cc in absurd (omega arith)) (sym q ∙ e)
 
       pub ends-within′ : next ≤ length s
       ends-within′ = omega (arith, next-is, end-within s at (omega (arith, next-is, l)))

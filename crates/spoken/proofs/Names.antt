@@ -14,7 +14,7 @@ use mir.Val.{Fits}
 use borrow.Author.Needs.{needs}
 use borrow.Author.Tests.{leb-true, eqb-true}
 use Rattle.kind.specs.Class.{isCapital, isSmall, isLetter}
-use Rattle.kind.proofs.Tests.{either, or-left, or-right, and-left, and-right, and-both, clash, less-or-not}
+use Rattle.kind.proofs.Tests.{both-ways, by-test, either, or-left, or-right, and-left, and-right, and-both, clash, less-or-not}
 use Rattle.util.specs.Run.{run, runEnd, every}
 use Rattle.util.proofs.Every.{every-join, every-weaker, every-run-front}
 use Rattle.util.proofs.Runs.{run-again, run-more, run-from}
@@ -41,38 +41,24 @@ begun c d h = ⊎-elim letters stars (either (agrees false c d) (eqb c 42 && eqb
   where
     letters : agrees false c d ≡ true → Begun c d
     letters e =
-        record {
-          same = agreed-case false c d e;
-          first = or-left (eqb c 42) (agreed-first false c d e);
-          second = or-left (eqb d 42) (agreed-letter false c d e);
-          plain = capital-not-small c (agreed-class false c d e);
-        }
+        record { same = agreed-case false c d e; first = or-left _ (agreed-first false c d e); second = or-left _ (agreed-letter false c d e); plain = capital-not-small c (agreed-class false c d e) }
 
     stars : (eqb c 42 && eqb d 42) ≡ true → Begun c d
     stars e =
         let p = and-left (eqb c 42) (eqb d 42) e in
         let q = and-right (eqb c 42) (eqb d 42) e in
-        record {
-          same = one-letter c d (eqb-true c 42 p ∙ sym (eqb-true d 42 q));
-          first = or-right (isLetter c) p;
-          second = or-right (isLetter d) q;
-          plain = rw (eqb-true c 42 p);
-        }
+        record { same = one-letter c d (eqb-true c 42 p ∙ sym (eqb-true d 42 q)); first = or-right (isLetter c) p; second = or-right (isLetter d) q; plain = rw (eqb-true c 42 p) }
 
 opens-more : (u l : List ℕ) → opens u ≡ true → every isLetter l ≡ true → opens (u ++ l) ≡ true
 unfolding opens
-opens-more [] l o h = absurd (false≢true o)
+opens-more [] l o h = clash o refl
 opens-more (c ∷ u) l o h =
-    and-both (and-left (isLetter c || eqb c 42) (every isLetter u) o) (every-join isLetter u l (and-right (isLetter c || eqb c 42) (every isLetter u) o) h)
+    and-both (and-left (isLetter c || eqb c 42) _ o) (every-join isLetter u l (and-right (isLetter c || eqb c 42) _ o) h)
 
 -- past the end of a text there is nothing to begin with
 something : (s : List ℕ) (p : ℕ) → (isLetter (getD s p 0) || eqb (getD s p 0) 42) ≡ true → p < length s
 unfolding isLetter isCapital isSmall
-something s p h = go (less-or-not p (length s))
-  where
-    go : (p < length s) ⊎ (length s ≤ p) → p < length s
-    go (inl l) = l
-    go (inr l) = absurd (false≢true (rw (List·getD-eq-default s 0 l) at h))
+something s p h = ⊎-elim (λ l. l) (λ l. clash (rw (List·getD-eq-default s 0 l) at h) refl) (less-or-not p (length s))
 
 pub letter-in′ : (s : List ℕ) (p : ℕ) (m : Bool) → m ≡ letterAt s p → m ≡ true → p < length s
 letter-in′ s p m e k = something s p (or-left (eqb (getD s p 0) 42) (sym (letter-at s p) ∙ sym e ∙ k))
@@ -123,15 +109,11 @@ further small x s at p q z eq f = (
 -- after a run there is none of its class
 after-run : (x : List ℕ) (p i : ℕ) → i ≡ runEnd isSmall x p → isSmall (getD x i 0) ≡ false
 unfolding isSmall
-after-run x p i e = go (isSmall (getD x i 0)) refl (less-or-not i (length x))
-  where
-    stays : runEnd isSmall x i ≡ i
-    stays = rw e (run-again isSmall x p)
-
-    go : (b : Bool) → isSmall (getD x i 0) ≡ b → (i < length x) ⊎ (length x ≤ i) → b ≡ false
-    go false q l = refl
-    go true q (inl l) = absurd (omega (arith, stays, run-more isSmall x i l q, run-from isSmall x (i + 1)))
-    go true q (inr l) = absurd (false≢true (rw (List·getD-eq-default x 0 l) at q))
+after-run x p i e =
+    let stays : runEnd isSmall x i ≡ i = rw e (run-again isSmall x p) in
+    both-ways (isSmall (getD x i 0)) false
+    (λ q. ⊎-elim (λ l. absurd (omega (arith, run-more isSmall x i l q, run-from isSmall x (i + 1)))) (λ l. rw (List·getD-eq-default x 0 l) at q) (less-or-not i (length x)))
+    (λ q. clash q refl)
 
 small-some : (l : List ℕ) → 0 < length l → every isSmall l ≡ true → every notSmall l ≡ false
 unfolding every
@@ -246,11 +228,7 @@ module _ (x s : List ℕ) (at : ℕ) (size : length x ≤ 12) (alike′ : beginA
               differ e = clash (sym el ∙ k) (rw (← e) at (sym em ∙ km))
 
               some : 0 < length (smalls .said)
-              some = go (less-or-not 0 (length (smalls .said)))
-                where
-                  go : (0 < length (smalls .said)) ⊎ (length (smalls .said) ≤ 0) → 0 < length (smalls .said)
-                  go (inl h) = h
-                  go (inr h) = absurd (differ (omega (arith, h, eq, smalls .said-long)))
+              some = ⊎-elim (λ h. h) (λ h. absurd (differ (omega (arith, h, eq, smalls .said-long)))) (less-or-not 0 (length (smalls .said)))
 
           pub reached-long′ : m ≡ false → (i : ℕ) → i ≡ q → (place : ℕ) → place ≡ at + q → Reached x s at i place
           reached-long′ km i ei place e = rw (ei, e) (reached-long km)
@@ -263,11 +241,10 @@ module _ (x s : List ℕ) (at : ℕ) (size : length x ≤ 12) (alike′ : beginA
             unfolding departsAt
             other d ed kd =
                 let e : q + 0 ≡ q = omega arith in
-                rw (getD-drop q x 0 0, e) (go (leb (length x) q) refl (sym ed ∙ kd))
-              where
-                go : (r : Bool) → leb (length x) q ≡ r → cond r true (not (eqb (getD x q 0 % 32) (getD s (at + q) 0 % 32))) ≡ true → eitherCase (getD x q 0) (getD s (at + q) 0) ≡ false
-                go true h f = rw (List·getD-eq-default x 0 (leb-true (length x) q h)) (none-apart (getD s (at + q) 0) letter)
-                go false h f = apart (getD x q 0) (getD s (at + q) 0) f
+                rw (getD-drop q x 0 0, e)
+                (by-test (λ (r : Bool). r ≡ true → eitherCase (getD x q 0) (getD s (at + q) 0) ≡ false) (leb (length x) q)
+                (λ h _. rw (List·getD-eq-default x 0 (leb-true (length x) q h)) (none-apart (getD s (at + q) 0) letter))
+                (λ h. apart (getD x q 0) (getD s (at + q) 0)) (sym ed ∙ kd))
 
             pub departs′ : (d : Bool) → d ≡ departsAt x q (getD s (at + q) 0) → d ≡ true → spelled.Not ≡ spelledAt x s at
             departs′ d ed kd =

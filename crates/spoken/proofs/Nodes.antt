@@ -10,7 +10,7 @@ use lib.ListN.{length, getD, take, drop, List·getD-eq-default}
 use lib.Seq.{drop-cons, take-nil}
 use borrow.Author.Needs.{needs}
 use borrow.Author.Tests.{not-false, leb-true, le-ltb, ne-eqb}
-use Rattle.kind.proofs.Tests.{less-or-not}
+use Rattle.kind.proofs.Tests.{by-test, less-or-not}
 use Rattle.util.specs.Run.{least}
 use Rattle.util.proofs.Runs.{least-le, not-least}
 use Rattle.util.proofs.Before.{Before, none-yet, one-more}
@@ -56,16 +56,13 @@ other-first (c ∷ x) s at h =
 -- the name of a node is empty, or begins with its first byte
 name-first : (names : List ℕ) (w : ℕ) → (length (nameIn names w) ≡ 0) ⊎ (getD (nameIn names w) 0 0 ≡ initialIn names w)
 unfolding nameIn initialIn
-name-first names w = go (leb (nameStart w + nameLength w) (length names)) refl
+name-first names w =
+    by-test (λ (y : List ℕ). (length y ≡ 0) ⊎ (getD y 0 0 ≡ getD names (nameStart w) 0)) (leb (nameStart w + nameLength w) (length names))
+    (λ e. some (nameLength w) (leb-true (nameStart w + nameLength w) (length names) e)) (λ e. inl refl)
   where
     some : (n : ℕ) → nameStart w + n ≤ length names → (length (take n (drop (nameStart w) names)) ≡ 0) ⊎ (getD (take n (drop (nameStart w) names)) 0 0 ≡ getD names (nameStart w) 0)
     some zero h = inl refl
     some (suc n) h = inr (rw (drop-cons names (nameStart w) 0 (omega (arith, h))) refl)
-
-    go : (b : Bool) → leb (nameStart w + nameLength w) (length names) ≡ b
-        → (length (cond b (take (nameLength w) (drop (nameStart w) names)) []) ≡ 0) ⊎ (getD (cond b (take (nameLength w) (drop (nameStart w) names)) []) 0 0 ≡ getD names (nameStart w) 0)
-    go true e = some (nameLength w) (leb-true (nameStart w + nameLength w) (length names) e)
-    go false e = inl refl
 
 -- the name of one node
 
@@ -96,11 +93,9 @@ Passed t names s at from k = Before (λ j. spelledAt (nameOf t names j) s at ≡
 -- past the table there is no name
 past-not : (t names s : List ℕ) (at k : ℕ) → length t ≤ k → spelledAt (nameOf t names k) s at ≡ Spelled.Not
 unfolding nameIn nameLength
-past-not t names s at k h = rw (List·getD-eq-default t 0 h) (sym (empty-not (nameIn names 0) s at (go (leb (nameStart 0 + nameLength 0) (length names)))))
-  where
-    go : (b : Bool) → length (cond b (take (nameLength 0) (drop (nameStart 0) names)) []) ≡ 0
-    go true = refl
-    go false = refl
+past-not t names s at k h =
+    rw (List·getD-eq-default t 0 h)
+    (sym (empty-not (nameIn names 0) s at (by-test (λ (y : List ℕ). length y ≡ 0) (leb (nameStart 0 + nameLength 0) (length names)) (λ _. refl) (λ _. refl))))
 
 module _ (t names s : List ℕ) (from to at e : ℕ) where
   pub block-begins′ : Passed t names s at from from

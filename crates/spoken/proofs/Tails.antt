@@ -2,7 +2,7 @@
 use Prim.Native.Nat.{ℕ, suc, _+_, _-_, _*_, _^_, _≤_, _<_}
 use mathlib.Core.Path.{_≡_, refl, sym, ap, _∙_}
 use mathlib.Core.List.{List, [], _∷_, _++_, append-assoc, append-nil}
-use mathlib.Core.Logic.{_⊎_, inl, inr}
+use mathlib.Core.Logic.{_⊎_, inl, inr, ⊎-elim}
 use mathlib.Core.Bool.{Bool, true, false, not, cond, _&&_}
 use native.Mathlib.Omega.{arith}
 use native.Mathlib.Numerals.{add-one}
@@ -21,7 +21,7 @@ use Rattle.mnemonic.specs.Mnemonic.{eitherCase, matches}
 use Rattle.mnemonic.proofs.Pairs.{long}
 use Rattle.spoken.specs.{Spoken.spelledAt, declared.Spelled.Spelled}
 use Rattle.spoken.specs.Internal.{goesOnAt, oneAdded, Reached, Counted, Missing}
-use Rattle.spoken.proofs.Bytes.{digit-in}
+use Rattle.spoken.proofs.Bytes.{by-bool, digit-in}
 use Rattle.spoken.proofs.Matching.{letter-left, same-digits, more-digits, other-digit, one-left, digits-left, one-added, more-added}
 use Rattle.spoken.proofs.Mnemonics.{remainder, goes-in, remainder-none, remainder-some, remainder-after, no-match, over-long, match}
 
@@ -32,35 +32,25 @@ none-long (c ∷ x) h = absurd (omega arith)
 -- a byte that is not at a place
 not-there : (c : ℕ) (s : List ℕ) (p : ℕ) → isDigit c ≡ true → standsAt c s p ≡ false → getD s p 0 ≡ c → ⊥
 unfolding standsAt isDigit
-not-there c s p d h e = go (less-or-not p (length s))
-  where
-    go : (p < length s) ⊎ (length s ≤ p) → ⊥
-    go (inl l) = clash (and-both (lt-ltb p (length s) l) (eq-eqb (getD s p 0) c e)) h
-    go (inr l) = omega (arith, leb-true 48 c (and-left (leb 48 c) (leb c 57) d), e, List·getD-eq-default s 0 l)
+not-there c s p d h e =
+    ⊎-elim (λ l. clash (and-both (lt-ltb p (length s) l) (eq-eqb (getD s p 0) c e)) h)
+    (λ l. omega (arith, leb-true 48 c (and-left (leb 48 c) (leb c 57) d), e, List·getD-eq-default s 0 l)) (less-or-not p (length s))
 
 -- the first byte of what is left of a mnemonic
 first-left : (s : List ℕ) (p : ℕ) (e : ℕ) (b : List ℕ) → remainder s p ≡ e ∷ b → getD s p 0 ≡ e
-first-left s p e b h = go (goesOnAt s p) refl
-  where
-    go : (g : Bool) → goesOnAt s p ≡ g → getD s p 0 ≡ e
-    go true q = ap (λ (l : List ℕ). getD l 0 0) (sym (remainder-some s p q) ∙ h)
-    go false q = absurd (omega (arith, ap length (sym (remainder-none s p q) ∙ h)))
+first-left s p e b h =
+    by-bool (goesOnAt s p) (λ q. ap (λ (l : List ℕ). getD l 0 0) (sym (remainder-some s p q) ∙ h))
+    (λ q. absurd (omega (arith, ap length (sym (remainder-none s p q) ∙ h))))
 
 no-letter-first : (s : List ℕ) (p : ℕ) → isLetter (getD s p 0) ≡ false → isLetter (getD (remainder s p) 0 0) ≡ false
 unfolding isLetter isCapital isSmall
-no-letter-first s p h = go (remainder s p) refl
-  where
-    go : (l : List ℕ) → remainder s p ≡ l → isLetter (getD l 0 0) ≡ false
-    go [] q = refl
-    go (e ∷ b) q = sym (ap isLetter (first-left s p e b q)) ∙ h
+no-letter-first s p h = by-bool (goesOnAt s p) (λ q. rw (remainder-some s p q) h) (λ q. rw (remainder-none s p q))
 
 not-first : (s : List ℕ) (p c : ℕ) → isDigit c ≡ true → (getD s p 0 ≡ c → ⊥) → getD (remainder s p) 0 0 ≡ c → ⊥
 unfolding isDigit
-not-first s p c d n h = go (remainder s p) refl h
-  where
-    go : (l : List ℕ) → remainder s p ≡ l → getD l 0 0 ≡ c → ⊥
-    go [] q f = omega (arith, leb-true 48 c (and-left (leb 48 c) (leb c 57) d), f)
-    go (e ∷ b) q f = n (first-left s p e b q ∙ f)
+not-first s p c d n h =
+    by-bool (goesOnAt s p) (λ q. n (rw (remainder-some s p q) at h))
+    (λ q. omega (arith, leb-true 48 c (and-left (leb 48 c) (leb c 57) d), rw (remainder-none s p q) at h))
 
 module _ (x s : List ℕ) (at from i next : ℕ) (k : Counted x s at from i next) where
   abbrev r : Reached x s at from (k .place)
@@ -207,8 +197,7 @@ module _ (x s : List ℕ) (at from i next : ℕ) (k : Counted x s at from i next
         by-to x s at from i next k (k .digits) (k .digits) all-said (rw (remainder-none s next (sym eg ∙ not-true g kg)) (append-nil (k .digits)))
         (same-digits (r .said) (r .left) (r .letters) (r .same) (r .said-opens) (r .letters-open) (drop from x) (r .form) (k .digits) (k .all-digits))
         (omega (arith, name-long x s at from i next k, r .size))
-        next
-        (k .next-is)
+        next (k .next-is)
       where
         r : Reached x s at from (k .place)
         r = k .reached
@@ -264,8 +253,7 @@ module _ (x s : List ℕ) (at from i next : ℕ) (k : Counted x s at from i next
             one true p false q true t =
                 by-to x s at from i next k [] (49 ∷ []) (all-said ∙ no-digit) (on-left ∙ rw (eqb-true (getD s next 0) 49 p, remainder-none s (suc next) (rw add-one at q)))
                 (one-added (r .said) (r .left) (r .letters) (r .same) (r .said-opens) (r .letters-open) (drop from x) (r .form))
-                (omega (arith, leb-true (next - at) 11 t, k .next-is, r .place-is, ap length no-digit))
-                (next + 1)
+                (omega (arith, leb-true (next - at) 11 t, k .next-is, r .place-is, ap length no-digit)) (next + 1)
                 (omega (arith, k .next-is, ap length no-digit))
 
 pub ruleset tail-laws = (needs, letter-left′, missing′, counted-begin′, next-fits′, counted-more′, spelled-to′, next-in′, next-after′, digits-go-on′, added′)

@@ -1,10 +1,9 @@
 -- Laws of fault 5, as the code meets them.
 use Prim.Native.Nat.{ℕ, _+_, _≤_, _<_}
 use mathlib.Core.Path.{_≡_, sym, _∙_}
-use mathlib.Core.Logic.{_⊎_, inl, inr}
+use mathlib.Core.Logic.{_⊎_, inl, inr, ⊎-elim}
 use mathlib.Core.List.{List}
 use mathlib.Core.Bool.{Bool, true, false, not}
-use native.Mathlib.Decide.{ℕ-discrete}
 use native.Mathlib.Omega.{arith}
 use lib.ListN.{length, getD}
 use borrow.Author.Needs.{needs}
@@ -34,15 +33,9 @@ record First (t : List ℕ) (from to d : ℕ) : Type 0 where
 
 first-at : {t : List ℕ} {from to d : ℕ} → PicksIn (unsaidIn t) from to (Pick.Child d) → First t from to d
 unfolding unsaidIn
-first-at {t} {from} {d = d} (first-in l u e f) = record { low = l; high = u; is = e; inside = go (less-or-not d (length t)); before = λ k h g. back k (less-or-not k d) h g }
-  where
-    go : (d < length t) ⊎ (length t ≤ d) → d < length t
-    go (inl h) = h
-    go (inr h) = clash e (not-past t d h)
-
-    back : (k : ℕ) → (k < d) ⊎ (d ≤ k) → from ≤ k → default t k ≡ true → d ≤ k
-    back k (inl h) g i = clash i (f k g h)
-    back k (inr h) g i = h
+first-at {t} {from} {d = d} (first-in l u e f) =
+    let inside : d < length t = ⊎-elim (λ h. h) (λ h. clash e (not-past t d h)) (less-or-not d (length t)) in
+    record { low = l; high = u; is = e; inside = inside; before = λ k h g. ⊎-elim (λ i. clash g (f k h i)) (λ i. i) (less-or-not k d) }
 
 none-at : (t : List ℕ) {from to : ℕ} → PicksIn (unsaidIn t) from to Pick.None → (k : ℕ) → from ≤ k → k < to → default t k ≡ true → ⊥
 unfolding unsaidIn
@@ -111,15 +104,11 @@ module _ (t : List ℕ) where
             one = x .other;
             other = x .one;
             low = x .child-other .from;
-            order = strict (ℕ-discrete (x .one) (x .other));
+            order = omega (arith, x .two);
             high = x .child-one .below;
             default-one = x .default-other;
             default-other = x .default-one;
           }
-        where
-          strict : Dec (x .one ≡ x .other) → x .other < x .one
-          strict (yes e) = absurd (x .two e)
-          strict (no e) = omega arith
 
   pub single-begins′ : Single t 0
   single-begins′ = none-yet (One t) 0

@@ -1,26 +1,22 @@
 -- A table whose blocks follow each other is a tree: each node but the root has one holder, before it.
 use Prim.Native.Nat.{ℕ, zero, suc, _+_, _≤_, _<_}
 use mathlib.Core.Path.{_≡_, refl}
-use mathlib.Core.Logic.{_⊎_, inl, inr}
+use mathlib.Core.Logic.{_⊎_, inl, inr, ⊎-elim}
 use mathlib.Core.List.{List}
-use mathlib.Core.Bool.{Bool, true, false, cond}
+use mathlib.Core.Bool.{Bool, true, false}
 use native.Mathlib.Decide.{ℕ-discrete}
 use native.Mathlib.Nat.{le-refl}
 use native.Mathlib.Omega.{arith}
 use lib.ListN.{length, getD}
 use borrow.Author.Tests.{lt-ltb, le-leb}
-use Rattle.kind.proofs.Tests.{less-or-not}
+use Rattle.kind.proofs.Tests.{by-test, less-or-not}
 use Rattle.node.specs.Tree.{branch, first, count, Child, Near, child, under}
 use Rattle.branch.specs.Block.{blockOf, childrenOf}
 use Rattle.layout.specs.Layout.{behind, ChildBlocks, not-behind, not-to-end, too-early}
 use Rattle.layout.proofs.Blocks.{in-table}
 
-equal : (a b : ℕ) → ((a ≡ b → ⊥) → ⊥) → a ≡ b
-equal a b h = go (ℕ-discrete a b)
-  where
-    go : Dec (a ≡ b) → a ≡ b
-    go (yes e) = e
-    go (no e) = absurd (h e)
+pub equal : (a b : ℕ) → ((a ≡ b → ⊥) → ⊥) → a ≡ b
+equal a b h = elim (ℕ-discrete a b) [ yes e ↦ e | no e ↦ absurd (h e) ]
 
 -- what is near to a node is near to a branch
 pub near-branch : {t : List ℕ} {b k : ℕ} → Near t b k → branch t b ≡ true
@@ -30,30 +26,19 @@ near-branch (under c d x) = c .holder
 module _ (t : List ℕ) where
   behind-more : (k : ℕ) → behind t k ≤ behind t (suc k)
   unfolding behind
-  behind-more k = go (branch t k)
-    where
-      go : (r : Bool) → behind t k ≤ cond r (behind t k + count t k) (behind t k)
-      go true = omega arith
-      go false = omega arith
+  behind-more k = by-test (λ (n : ℕ). behind t k ≤ n) (branch t k) (λ _. omega arith) (λ _. omega arith)
 
   behind-order : (k j : ℕ) → k ≤ j → behind t k ≤ behind t j
   behind-order k zero h = let e : k ≡ 0 = omega arith in rw e (le-refl (behind t 0))
-  behind-order k (suc j) h = go (less-or-not j k) (behind-order k j)
-    where
-      go : (j < k) ⊎ (k ≤ j) → (k ≤ j → behind t k ≤ behind t j) → behind t k ≤ behind t (suc j)
-      go (inl l) rest = let e : k ≡ suc j = omega arith in rw e (le-refl (behind t (suc j)))
-      go (inr l) rest = omega (arith, rest l, behind-more j)
+  behind-order k (suc j) h =
+      ⊎-elim (λ l. let e : k ≡ suc j = omega arith in rw e (le-refl (behind t (suc j)))) (λ l. omega (arith, behind-order k j l, behind-more j)) (less-or-not j k)
 
   module _ (ok : ChildBlocks t → ⊥) where
     pub starts : (b : ℕ) → branch t b ≡ true → first t b ≡ behind t b
     starts b m = equal (first t b) (behind t b) (λ n. ok (not-behind b m n))
 
     pub after : (b : ℕ) → branch t b ≡ true → b < first t b
-    after b m = go (less-or-not b (first t b))
-      where
-        go : (b < first t b) ⊎ (first t b ≤ b) → b < first t b
-        go (inl l) = l
-        go (inr l) = absurd (ok (too-early b m l))
+    after b m = ⊎-elim (λ l. l) (λ l. absurd (ok (too-early b m l))) (less-or-not b (first t b))
 
     ends : behind t (length t) ≡ length t
     ends = equal (behind t (length t)) (length t) (λ n. ok (not-to-end n))
@@ -81,12 +66,8 @@ module _ (t : List ℕ) where
         omega (arith, x .below, stops b (x .holder), behind-order (suc b) c l, starts c (y .holder), y .from)
 
     pub one-holder : {b c k : ℕ} → Child t b k → Child t c k → b ≡ c
-    one-holder {b} {c} x y = go (less-or-not b c) (less-or-not c b)
-      where
-        go : (b < c) ⊎ (c ≤ b) → (c < b) ⊎ (b ≤ c) → b ≡ c
-        go (inl l) z = absurd (not-later x y l)
-        go (inr l) (inl m) = absurd (not-later y x m)
-        go (inr l) (inr m) = omega arith
+    one-holder {b} {c} x y =
+        ⊎-elim (λ l. absurd (not-later x y l)) (λ l. ⊎-elim (λ m. absurd (not-later y x m)) (λ m. omega arith) (less-or-not c b)) (less-or-not b c)
 
     -- the branch among the first n nodes whose block has the node k
     among : (n k : ℕ) → 0 < k → k < behind t n → (b : ℕ) × Child t b k
@@ -107,9 +88,7 @@ module _ (t : List ℕ) where
     -- a near node is the child of a branch no earlier than the one that it is near to
     near-holder : {b k : ℕ} → Near t b k → (c : ℕ) × (b ≤ c) × Child t c k
     near-holder {b} (child c) = (b, omega arith, c)
-    near-holder (under c d x) =
-        let z = near-holder x in
-        (z .0, omega (arith, child-after c, z .1), z .2)
+    near-holder (under c d x) = let z = near-holder x in (z .0, omega (arith, child-after c, z .1), z .2)
 
     -- a child is no near node of another child
     pub elsewhere : {b d k : ℕ} → Child t b k → Child t b d → Near t d k → ⊥

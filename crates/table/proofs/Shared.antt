@@ -1,8 +1,7 @@
 -- Laws of fault 6, as the code meets them.
 use Prim.Native.Nat.{ℕ, _+_, _-_, _≤_, _<_}
 use mathlib.Core.Path.{_≡_, sym, ap, _∙_}
-use native.Mathlib.Decide.{ℕ-discrete}
-use mathlib.Core.Logic.{_⊎_, inl, inr}
+use mathlib.Core.Logic.{⊎-elim}
 use mathlib.Core.List.{List}
 use mathlib.Core.Bool.{Bool, true, false}
 use native.Mathlib.Nat.{add-zero}
@@ -26,7 +25,7 @@ use Rattle.layout.specs.Layout.{BadName, outside, no-byte}
 use Rattle.table.specs.Internal.{NamedBlock, OneDefault, DefaultBranch, inner, no-inner, DefaultShares, SharesIn, ChildrenShare, BlocksShare, NearShares, SharesAt, children, below, Ready}
 use Rattle.util.proofs.Before.{Before, none-yet, one-more}
 use Rattle.layout.proofs.NodeNames.{name-of}
-use Rattle.table.proofs.Shape.{after, block-in, its-children, near-branch}
+use Rattle.table.proofs.Shape.{equal, after, block-in, its-children, near-branch}
 
 -- the name of a node of a block
 
@@ -40,19 +39,10 @@ module _ (t names : List ℕ) (from to : ℕ) (ok : NamedBlock t names from to) 
   name-is = name-of t names (ok .ready .no-node-name) k (omega (arith, ok .some)) (omega (arith, ok .within))
 
   long : 0 < nameLength (getD t k 0)
-  long = go (less-or-not 0 (nameLength (getD t k 0)))
-    where
-      go : (0 < nameLength (getD t k 0)) ⊎ (nameLength (getD t k 0) ≤ 0) → 0 < nameLength (getD t k 0)
-      go (inl h) = h
-      go (inr h) = absurd (good (no-byte (omega arith)))
+  long = ⊎-elim (λ h. h) (λ h. absurd (good (no-byte (omega arith)))) (less-or-not 0 (nameLength (getD t k 0)))
 
   lies : nameStart (getD t k 0) + nameLength (getD t k 0) ≤ length names
-  lies = go (less-or-not (length names) (nameStart (getD t k 0) + nameLength (getD t k 0)))
-    where
-      go : (length names < nameStart (getD t k 0) + nameLength (getD t k 0)) ⊎ (nameStart (getD t k 0) + nameLength (getD t k 0) ≤ length names)
-          → nameStart (getD t k 0) + nameLength (getD t k 0) ≤ length names
-      go (inl h) = absurd (good (outside h))
-      go (inr h) = h
+  lies = ⊎-elim (λ h. absurd (good (outside h))) (λ h. h) (less-or-not (length names) (nameStart (getD t k 0) + nameLength (getD t k 0)))
 
   initial-is : getD (nameOf t names k) 0 0 ≡ initialIn names (getD t k 0)
   unfolding nameIn initialIn
@@ -175,14 +165,9 @@ pub ruleset strangers-laws = (step-laws, stranger-named′, strangers-begin′, 
 -- the near nodes of a branch against a block
 
 pub one-default : (t names : List ℕ) → Ready t names → {b d e : ℕ} → Child t b d → Child t b e → default t d ≡ true → default t e ≡ true → d ≡ e
-one-default t names ok {b} {d} {e} c c′ m m′ = go (ℕ-discrete d e)
-  where
-    go : Dec (d ≡ e) → d ≡ e
-    go (yes q) = q
-    go (no q) =
-        absurd
-        (ok .no-two-defaults
-        (record { holder = b; one = d; other = e; child-one = c; child-other = c′; two = q; default-one = m; default-other = m′ }))
+one-default t names ok {b} {d} {e} c c′ m m′ =
+    equal d e
+    (λ q. ok .no-two-defaults (record { holder = b; one = d; other = e; child-one = c; child-other = c′; two = q; default-one = m; default-other = m′ }))
 
 module _ (t names : List ℕ) (ok : Ready t names) (b : ℕ) (m : branch t b ≡ true) (x : Block) (p : x ≡ childrenOf t b) where
   -- what is known of the block of a branch

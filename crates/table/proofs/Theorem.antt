@@ -1,16 +1,15 @@
 -- It is enough to compare, at each branch, its children with each other and with the near nodes of its default branch.
 use Prim.Native.Nat.{ℕ, _+_, _≤_, _<_}
-use mathlib.Core.Path.{_≡_, refl, sym, subst, _∙_}
-use mathlib.Core.Logic.{_↔_, _⊎_, inl, inr}
+use mathlib.Core.Path.{_≡_, sym, subst, _∙_}
+use mathlib.Core.Logic.{_↔_, ⊎-elim}
 use mathlib.Core.List.{List}
 use mathlib.Core.Bool.{Bool, true, false}
-use native.Mathlib.Decide.{ℕ-discrete}
 use native.Mathlib.Omega.{arith}
 use lib.ListN.{length, getD}
 use borrow.Author.Needs.{needs}
 use Rattle.kind.proofs.Tests.{clash, less-or-not}
 use Rattle.util.specs.Decides.{Decides, holds, fails}
-use Rattle.util.proofs.Decided.{it-holds, it-fails}
+use Rattle.util.proofs.Decided.{it-holds, it-fails, one-answer}
 use Rattle.name.specs.Share.{shares, Share}
 use Rattle.names.proofs.Shares.{sharing}
 use Rattle.node.specs.Word.{isBranch}
@@ -32,11 +31,7 @@ module _ (t names : List ℕ) (ok : Ready t names) where
     exact = sharing (nameOf t names k) (nameOf t names j) (name-of t names (ok .no-node-name) k p l) (name-of t names (ok .no-node-name) j q m)
 
     tested : Share (nameOf t names k) (nameOf t names j) → shares (nameOf t names k) (nameOf t names j) ≡ true
-    tested s = go (shares (nameOf t names k) (nameOf t names j)) refl exact
-      where
-        go : (r : Bool) → shares (nameOf t names k) (nameOf t names j) ≡ r → Decides (Share (nameOf t names k) (nameOf t names j)) r → shares (nameOf t names k) (nameOf t names j) ≡ true
-        go true e d = e
-        go false e d = absurd (it-fails d refl s)
+    tested s = one-answer exact (holds s)
 
     shared : shares (nameOf t names k) (nameOf t names j) ≡ true → Share (nameOf t names k) (nameOf t names j)
     shared e = it-holds exact e
@@ -71,15 +66,8 @@ module _ (t names : List ℕ) (ok : Ready t names) where
       })
 
   found : {b k j : ℕ} → Near t b k → Near t b j → (k ≡ j → ⊥) → Share (nameOf t names k) (nameOf t names j) → (a : ℕ) × (branch t a ≡ true) × SharesAt t names a
-  found {b} {k} {j} (child c) (child d) two s = (b, c .holder, go (less-or-not k j))
-    where
-      go : (k < j) ⊎ (j ≤ k) → SharesAt t names b
-      go (inl l) = sisters c d l s
-      go (inr l) = sisters d c (strict (ℕ-discrete k j)) (flip s)
-        where
-          strict : Dec (k ≡ j) → j < k
-          strict (yes e) = absurd (two e)
-          strict (no e) = omega arith
+  found {b} {k} {j} (child c) (child d) two s =
+      (b, c .holder, ⊎-elim (λ l. sisters c d l s) (λ l. sisters d c (omega (arith, two)) (flip s)) (less-or-not k j))
   found {b} (child c) (under d m x) two s = (b, c .holder, aunt c d m x (flip s))
   found {b} (under c m x) (child d) two s = (b, d .holder, aunt d c m x s)
   found {j = j} (under {d = d} c m x) (under {d = e} c′ m′ y) two s =

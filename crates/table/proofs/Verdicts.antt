@@ -25,12 +25,8 @@ at-most n (shared-spelling x) = omega arith
 module _ (t names : List ℕ) where
   -- the faults below a number fail
   below : (n : ℕ)
-      → (1 < n → NodeCount t → ⊥)
-      → (2 < n → NodeFields t → ⊥)
-      → (3 < n → ChildBlocks t → ⊥)
-      → (4 < n → NodeName t names → ⊥)
-      → (5 < n → TwoDefaults t → ⊥)
-      → (6 < n → SharedSpelling t names → ⊥)
+      → (1 < n → NodeCount t → ⊥) → (2 < n → NodeFields t → ⊥) → (3 < n → ChildBlocks t → ⊥) → (4 < n → NodeName t names → ⊥)
+      → (5 < n → TwoDefaults t → ⊥) → (6 < n → SharedSpelling t names → ⊥)
       → (e : ErrorCode) (m : ℕ) → m < n → Fault t names e m → ⊥
   below n f1 f2 f3 f4 f5 f6 e m l (node-count x) = f1 l x
   below n f1 f2 f3 f4 f5 f6 e m l (node-fields x) = f2 l x

@@ -34,8 +34,7 @@ module _ (s : List ℕ) (st : State) where
   tells =
       ⊎-elim
       (λ h. each s st (λ (x : Step). Tells s st (x .answer) (x .state)) (λ e. refl) (λ t next header common k. tt) (λ next k l. l) h)
-      (λ h. rw (rests h) h)
-      (less-or-not (st .place) (length s))
+      (λ h. rw (rests h) h) (less-or-not (st .place) (length s))
 
 pub claims : Claims
 claims =

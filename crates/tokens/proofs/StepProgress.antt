@@ -84,8 +84,7 @@ module _ (s : List ℕ) (st : State) (P : Step → Type 0)
     word-moves : inMnemonic b ≡ true → P (wordAt s st at)
     unfolding wordAt
     word-moves e =
-        by-test P (inHeader st)
-        (λ _. reads (inCommon st) (mnemonic s at) (header-behind s at h e))
+        by-test P (inHeader st) (λ _. reads (inCommon st) (mnemonic s at) (header-behind s at h e))
         (λ _. reads (inCommon st) (characterData s at) (character-behind s at h e))
 
     by-kind : P (byKind s st at b (kindOf b))

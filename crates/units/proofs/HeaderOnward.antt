@@ -52,8 +52,7 @@ Further p (turn.Refused e) = Unit {0}
 pub look-onward : (s : List ℕ) (st : State) → st .place ≤ (seenAt s st) .state .place
 unfolding seenAt
 look-onward s st =
-    ⊎-elim
-    (λ h. let l = claims .moves s st h in omega (arith, l))
+    ⊎-elim (λ h. let l = claims .moves s st h in omega (arith, l))
     (λ h. let l = ap (λ (x : Step). x .state .place) (claims .rests s st h) in omega (arith, l))
     (less-or-not (st .place) (length s))
 

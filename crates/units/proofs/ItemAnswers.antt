@@ -115,8 +115,7 @@ module _ (s : List ℕ) where
   unfolding metAt
   met-onward st e =
       let q = ap (λ (m : Met). m .state .place) e in
-      ⊎-elim
-      (λ h. let l = claims .moves s st h in omega (arith, l, q))
+      ⊎-elim (λ h. let l = claims .moves s st h in omega (arith, l, q))
       (λ h. let l = ap (λ (x : Step). x .state .place) (claims .rests s st h) in omega (arith, l, q))
       (less-or-not (st .place) (length s))
 

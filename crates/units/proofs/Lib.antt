@@ -6,4 +6,3 @@ pub mod UnitAnswers
 pub mod HeaderClaims
 pub mod HeaderSome
 pub mod HeaderOnward
-pub mod BranchSome

@@ -80,10 +80,7 @@ module _ (s : List ℕ) where
 
 module _ {t names s : List ℕ} {b : ℕ} {seen : Seen} {u : Record} {p : ℕ} where
   pub goes-on : Reads t names s b seen (Unit.Read u p) → seen .state .place ≤ p
-  goes-on (whole g k) =
-      let i = headers.claims .onward _ _ _ _ _ _ _ _ _ _ g in
-      let j = data-onward s k in
-      omega (arith, i, j)
+  goes-on (whole g k) = let i = headers.claims .onward _ _ _ _ _ _ _ _ _ _ g in let j = data-onward s k in omega (arith, i, j)
 
   pub items-fit : Reads t names s b seen (Unit.Read u p) → u .items ≤ length s
   items-fit (whole g k) = data-few s k

@@ -31,8 +31,7 @@ module _ (p : ℕ → Bool) where
   pub every-join : (x y : List ℕ) → every p x ≡ true → every p y ≡ true → every p (x ++ y) ≡ true
   unfolding every
   every-join [] y hx hy = hy
-  every-join (b ∷ x) y hx hy =
-      and-both (and-left (p b) (every p x) hx) (every-join x y (and-right (p b) (every p x) hx) hy)
+  every-join (b ∷ x) y hx hy = and-both (and-left (p b) (every p x) hx) (every-join x y (and-right (p b) (every p x) hx) hy)
 
   pub every-second : (x y : List ℕ) → every p (x ++ y) ≡ true → every p y ≡ true
   unfolding every
@@ -63,8 +62,7 @@ module _ (p : ℕ → Bool) where
   pub run-whole : (x y : List ℕ) → every p x ≡ true → run p y ≡ 0 → run p (x ++ y) ≡ length x
   unfolding every run
   run-whole [] y hx hy = hy
-  run-whole (b ∷ x) y hx hy =
-      rw (and-left (p b) (every p x) hx) (ap suc (run-whole x y (and-right (p b) (every p x) hx) hy))
+  run-whole (b ∷ x) y hx hy = rw (and-left (p b) (every p x) hx) (ap suc (run-whole x y (and-right (p b) (every p x) hx) hy))
 
   -- a run ends within the text
   pub run-within : (x : List ℕ) → run p x ≤ length x

@@ -5,8 +5,7 @@ use Rattle.report.proofs.Adds.{Begun, laws}
 use Rattle.report.proofs.write.copy as f
 
 abbrev Inv-loop : f.Tie.InvT-loop
-Inv-loop line₀ at text i₀ line i =
-    Begun line₀ at text line i × (i ≤ length text) × (length line ≡ length line₀)
+Inv-loop line₀ at text i₀ line i = Begun line₀ at text line i × (i ≤ length text) × (length line ≡ length line₀)
 
 abbrev μ-loop : f.Tie.MeasureT-loop
 μ-loop line₀ at text i₀ line i = length text - i

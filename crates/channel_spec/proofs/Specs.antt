@@ -1,4 +1,4 @@
--- Laws of where a spec ends and of its dimension, as the code meets them.
+-- Laws of where a spec ends, of its dimension, and of the walk through its items, as the code meets them.
 use Prim.Native.Nat.{ℕ, suc, _+_, _-_, _*_, _^_, _≤_, _<_}
 use mathlib.Core.Path.{_≡_, refl, sym, ap, _∙_}
 use mathlib.Core.List.{List, []}
@@ -9,16 +9,22 @@ use lib.Dec.{eqb, leb}
 use lib.ListN.{length, getD, take, drop, drop-of-length-le}
 use lib.Seq.{drop-cons, take-nil}
 use borrow.Author.Needs.{needs}
-use borrow.Author.Tests.{eq-eqb, ne-eqb, not-true, not-false}
+use borrow.Author.Tests.{eq-eqb, ne-eqb, not-true, not-false, le-leb, lt-leb, lt-ltb}
 use mir.Syntax.{w64}
 use mir.Val.{Fits}
 use Rattle.kind.specs.Class.{isDigit, isSign}
 use Rattle.kind.proofs.Tests.{by-test, less-or-not}
-use Rattle.util.specs.Run.{run, runEnd}
+use Rattle.util.specs.Run.{run, runEnd, standsAt}
 use Rattle.util.proofs.Runs.{run-past, run-stop, run-more, run-from}
 use Rattle.token.specs.View.{viewOf, partOf}
 use Rattle.forms.proofs.ItemAccepted.{part-shown, run-most}
 use Rattle.channel_spec.specs.Spec.{inSpec, bang, bangs, dimensionOf, specTo, specAt}
+use lib.IntN.{ℤ}
+use Rattle.error.specs.declared.ErrorCode.the-variants.{ExpressionError}
+use Rattle.number.specs.{Number.signedAt, declared.Signed.Signed}
+use Rattle.channel_spec.specs.Item.{refusal, bangEnd, itemBy, itemOf, itemAt}
+use Rattle.channel_spec.specs.declared.Item.the-variants as item
+use Rattle.channel_spec.specs.declared.Step.{Step}
 
 -- what may stand in a spec
 module _ (b : ℕ) (d : Bool) (ed : d ≡ isDigit b) where
@@ -87,9 +93,7 @@ module _ (s : List ℕ) (at end dimension : ℕ)
     (counts : dimension + bangs (front (drop end s)) ≡ suc (bangs (front (drop at s)))) where
   found : runEnd inSpec s at ≡ end → bangs (front (drop end s)) ≡ 0 → record { view = viewOf at end; dimension = dimension } ≡ specAt s at
   unfolding specAt specTo dimensionOf
-  found e z =
-      let d : dimension ≡ suc (bangs (front (drop at s))) = omega (arith, counts, z) in
-      rw (part-front s at, e, d)
+  found e z = let d : dimension ≡ suc (bangs (front (drop at s))) = omega (arith, counts, z) in rw (part-front s at, e, d)
 
   pub spec-stop′ : (r : Bool) → end < length s → r ≡ inSpec (getD s end 0) → not r ≡ true → record { view = viewOf at end; dimension = dimension } ≡ specAt s at
   spec-stop′ r h er q =
@@ -125,3 +129,36 @@ module _ (end dimension k b : ℕ) (most : dimension ≤ end + 1) (ek : k ≡ ba
   dimension-on′ j e = omega (arith, ek, bang-most b)
 
 pub ruleset laws = (needs, digit-in′, sign-in′, bang-in′, bang-there′, bang-none′, spec-stop′, spec-past′, runs-on′, counts-on′, dimension-fits′, dimension-on′)
+
+module _ (s : List ℕ) (at : ℕ) (r : Signed) (er : r ≡ signedAt s at) where
+  pub value′ : (v : ℤ) (end : ℕ) → r ≡ Signed.Value v end → record { item = item.Value v; place = end } ≡ itemOf s at
+  unfolding itemOf itemBy
+  value′ v end q = rw (← er, q)
+
+  pub no-digit′ : r ≡ Signed.NoDigit → (x : Step) → x ≡ refusal s → x ≡ itemOf s at
+  unfolding itemOf itemBy
+  no-digit′ q x ex = ex ∙ rw (← er, q)
+
+  pub too-large′ : r ≡ Signed.TooLarge → (x : Step) → x ≡ refusal s → x ≡ itemOf s at
+  unfolding itemOf itemBy
+  too-large′ q x ex = ex ∙ rw (← er, q)
+
+pub refusal-is′ : (s : List ℕ) → record { item = item.Refused ExpressionError; place = length s } ≡ refusal s
+unfolding refusal
+refusal-is′ s = refl
+
+module _ (s : List ℕ) (at : ℕ) where
+  pub end′ : length s ≤ at → record { item = item.End; place = at } ≡ itemAt s at
+  unfolding itemAt
+  end′ h = rw (le-leb (length s) at h)
+
+  module _ (h : at < length s) (x : Step) where
+    pub behind-bang′ : getD s at 0 ≡ 33 → x ≡ itemOf s (at + 1) → x ≡ itemAt s at
+    unfolding itemAt bangEnd standsAt
+    behind-bang′ e ex = ex ∙ rw (lt-leb (length s) at h, lt-ltb at (length s) h, eq-eqb (getD s at 0) 33 e)
+
+    pub plain′ : (getD s at 0 ≡ 33 → ⊥) → x ≡ itemOf s at → x ≡ itemAt s at
+    unfolding itemAt bangEnd standsAt
+    plain′ n ex = ex ∙ rw (lt-leb (length s) at h, lt-ltb at (length s) h, ne-eqb (getD s at 0) 33 n)
+
+pub ruleset walks = (needs, refusal-is′, value′, no-digit′, too-large′, end′, behind-bang′, plain′)

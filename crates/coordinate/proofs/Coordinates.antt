@@ -1,4 +1,4 @@
--- Laws of coordinates, as the code meets them.
+-- Laws of coordinates, and of the loop that looks for a `!`, as the code meets them.
 use Prim.Native.Nat.{ℕ, suc, _+_, _≤_, _<_}
 use mathlib.Core.Path.{_≡_, refl, sym, ap, _∙_}
 use mathlib.Core.List.{List, [], _∷_, _++_}
@@ -8,8 +8,8 @@ use mathlib.Core.Bool.{Bool, true, false, cond, true≢false}
 use native.Mathlib.Omega.{arith}
 use lib.Dec.{eqb, ltb}
 use lib.IntN.{ℤ}
-use lib.ListN.{length, getD, drop, length-append}
-use lib.Seq.{drop-append-seam}
+use lib.ListN.{length, getD, drop, length-append, drop-of-length-le}
+use lib.Seq.{drop-append-seam, drop-cons}
 use borrow.Author.Needs.{needs}
 use borrow.Author.Tests.{eq-eqb, ne-eqb, eqb-true, eqb-false, lt-ltb, le-ltb, ltb-true, ltb-false, le-leb, lt-leb, not-true}
 use Rattle.error.specs.declared.ErrorCode.{ErrorCode}
@@ -24,8 +24,9 @@ use Rattle.coordinate.specs.Reading.{lastOf, joinedBy, joinedAt, noCoord
 use Rattle.channel_spec.specs.declared.Item.the-variants as item
 use Rattle.coordinate.specs.{declared.Coordinate.Coordinate, declared.Pair.Pair, declared.Triple.Triple, declared.Joined.Joined}
 use Rattle.coordinate.specs.declared.Last.{Last}
-use Rattle.coordinate.proofs.Integers.{Read, isValue, some-byte, integer-form}
-use Rattle.coordinate.proofs.Parts.{Front, front-of, plain, whole-plain, then-last, then-bang, then-other, then-none}
+use Rattle.coordinate.proofs.Parts.{Read, isValue, some-byte, integer-form, Front, front-of, plain, whole-plain, then-last, then-bang, then-other, then-none}
+use native.Mathlib.Numerals.{add-one}
+use Rattle.channel_spec.proofs.Specs.{bang-there′, bang-none′}
 
 -- coordinates behind another are one more at least
 two : (v : ℤ) (t : List ℕ) → Last.Nothing ≡ lastOf (both (some v) (written t))
@@ -239,8 +240,7 @@ module _ (s : List ℕ) where
 
     no-first : isValue r ≡ false → bangs s ≡ 0 → firstOf ((itemAt s 0) .item) ≡ Coordinate.Refused ExpressionError
     unfolding firstOf itemAt
-    no-first q z =
-        ⊎-elim (λ h. rw (first-item z h, refused-item q)) (λ h. rw (le-leb (length s) 0 h)) (less-or-not 0 (length s))
+    no-first q z = ⊎-elim (λ h. rw (first-item z h, refused-item q)) (λ h. rw (le-leb (length s) 0 h)) (less-or-not 0 (length s))
 
     same-refusal : isValue r ≡ false → noCoordinate s ≡ coordinateOf s
     unfolding noCoordinate coordinateOf
@@ -283,3 +283,21 @@ module _ (s : List ℕ) where
           rw (just-one z, first-item z not-empty, ← er, q)
 
 pub ruleset ones = (needs, no-one-more′, no-one-first′, one-none′, one-large′, one-more′, one′)
+
+-- a `!` from a place on, as the loop that looks for one meets it
+module _ (s : List ℕ) (at i : ℕ) (inv : bangs (drop at s) ≡ bangs (drop i s)) where
+  pub bang-found′ : i < length s → getD s i 0 ≡ 33 → true ≡ ltb 0 (bangs (drop at s))
+  unfolding bangs
+  bang-found′ h e =
+      let n : bangs (drop at s) ≡ 1 + bangs (drop (suc i) s) = inv ∙ rw (drop-cons s i 0 h, ← bang-there′ (getD s i 0) e) in
+      sym (lt-ltb 0 (bangs (drop at s)) (omega (arith, n)))
+
+  pub bang-passed′ : (j : ℕ) → i < length s → (getD s i 0 ≡ 33 → ⊥) → j ≡ i + 1 → bangs (drop at s) ≡ bangs (drop j s)
+  unfolding bangs
+  bang-passed′ j h n e = inv ∙ rw (e, add-one, drop-cons s i 0 h, ← bang-none′ (getD s i 0) n) (omega arith)
+
+  pub bang-nowhere′ : length s ≤ i → false ≡ ltb 0 (bangs (drop at s))
+  unfolding bangs
+  bang-nowhere′ h = rw (inv, drop-of-length-le s h)
+
+pub ruleset looks = (needs, bang-found′, bang-passed′, bang-nowhere′)

@@ -2,7 +2,7 @@
 use Prim.Native.Nat.{ℕ, _+_, _-_, _≤_, _<_}
 use mathlib.Core.Path.{_≡_, _∙_}
 use mathlib.Core.List.{List}
-use mathlib.Core.Bool.{Bool, true, false, cond, not}
+use mathlib.Core.Bool.{Bool, true, false, not}
 use native.Mathlib.Omega.{arith}
 use lib.Dec.{eqb}
 use lib.ListN.{length, getD, List·getD-eq-default}
@@ -10,13 +10,14 @@ use borrow.Author.Needs.{needs}
 use borrow.Author.Tests.{le-leb, lt-leb, lt-ltb, le-ltb, eq-eqb, ne-eqb, not-true, not-false}
 use Rattle.error.specs.declared.ErrorCode.the-variants.{NumericDataError, InvalidSuffix, SuffixTooLong}
 use Rattle.kind.specs.Class.{isLetter, isDigit, isWhiteSpace}
+use Rattle.kind.proofs.Tests.{by-test}
 use Rattle.util.specs.Run.{runEnd, signEnd, standsAt}
 use Rattle.util.proofs.Runs.{run-again, run-from}
 use Rattle.token.specs.{View.viewOf, declared.View.View}
 use Rattle.token.specs.declared.Token.the-variants.{DecimalNumericProgramData, DecimalNumericSuffixProgramData}
 use Rattle.item.specs.Follow.{token, refused, followed}
 use Rattle.item.specs.{Near.runEndAmong, declared.Read.Read}
-use Rattle.item.proofs.Among.{among-from, among-under, among-whole}
+use Rattle.item.proofs.Words.{among-from, among-under, among-whole}
 use Rattle.decimal.specs.Decimal.{wholeEnd, hasWhole, fractionEnd, hasFraction, mantissa, beginsExponent, exponent, withExponent, number, numberTo, nrf, inSuffix, beginsSuffix, suffixed, suffixData, numericTo, numericData}
 use Rattle.decimal.specs.{declared.Place.Place, declared.Place.the-variants.At, declared.Place.the-variants.Nowhere}
 
@@ -35,11 +36,7 @@ module _ (s : List ℕ) (at : ℕ) where
 
   pub fraction-from : at ≤ fractionEnd s at
   unfolding fractionEnd
-  fraction-from = go (standsAt 46 s at)
-    where
-      go : (c : Bool) → at ≤ cond c (runEnd isDigit s (at + 1)) at
-      go true = omega (arith, run-from isDigit s (at + 1))
-      go false = omega arith
+  fraction-from = by-test (λ (i : ℕ). at ≤ i) (standsAt 46 s at) (λ _. omega (arith, run-from isDigit s (at + 1))) (λ _. omega arith)
 
 -- the mantissa, by the places behind its sign, its digits, and its fraction
 module _ (s : List ℕ) (at whole : ℕ) (ew : whole ≡ signEnd s at) (point : ℕ) (ep : point ≡ runEnd isDigit s whole) (end : ℕ) (ee : end ≡ fractionEnd s point) where
@@ -85,9 +82,7 @@ module _ (s : List ℕ) (at : ℕ) where
     module _ (q : not r ≡ false) (digits : ℕ) (ed : digits ≡ signEnd s (at + 1)) (end : ℕ) (ee : end ≡ runEnd isDigit s digits) where
       pub exponent-broken′ : end ≡ digits → Nowhere ≡ exponent s at
       unfolding exponent hasWhole wholeEnd
-      exponent-broken′ e =
-          let k : end ≤ digits = omega arith in
-          rw (← er, not-false r q, ← ed, ← ee, le-ltb digits end k)
+      exponent-broken′ e = let k : end ≤ digits = omega arith in rw (← er, not-false r q, ← ed, ← ee, le-ltb digits end k)
 
       pub exponent-there′ : (end ≡ digits → ⊥) → At end ≡ exponent s at
       unfolding exponent hasWhole wholeEnd

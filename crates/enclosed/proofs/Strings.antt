@@ -15,23 +15,17 @@ use Rattle.token.specs.{View.viewOf, declared.Token.the-variants.StringProgramD
 use Rattle.item.specs.{Follow.refused, Follow.followed, declared.Read.Read}
 use Rattle.enclosed.specs.String.{inString, stringEnd, closed, stringData}
 
+pub plain : (q b : ℕ) (t : List ℕ) → eqb b q ≡ false → isAscii b ≡ true → inString q (b ∷ t) ≡ suc (inString q t)
+unfolding inString
+plain q b [] e a = rw (e, a)
+plain q b (c ∷ t) e a = rw (e, a)
+
+pub foreign : (q b : ℕ) (t : List ℕ) → eqb b q ≡ false → isAscii b ≡ false → inString q (b ∷ t) ≡ 0
+unfolding inString
+foreign q b [] e a = rw (e, a)
+foreign q b (c ∷ t) e a = rw (e, a)
+
 module _ (q b : ℕ) (t : List ℕ) where
-  pub plain : eqb b q ≡ false → isAscii b ≡ true → inString q (b ∷ t) ≡ suc (inString q t)
-  unfolding inString
-  plain e a = go t
-    where
-      go : (t : List ℕ) → inString q (b ∷ t) ≡ suc (inString q t)
-      go [] = rw (e, a)
-      go (c ∷ t) = rw (e, a)
-
-  pub foreign : eqb b q ≡ false → isAscii b ≡ false → inString q (b ∷ t) ≡ 0
-  unfolding inString
-  foreign e a = go t
-    where
-      go : (t : List ℕ) → inString q (b ∷ t) ≡ 0
-      go [] = rw (e, a)
-      go (c ∷ t) = rw (e, a)
-
   pub doubled : (c : ℕ) → eqb b q ≡ true → eqb c q ≡ true → inString q (b ∷ c ∷ t) ≡ suc (suc (inString q t))
   unfolding inString
   doubled c e f = rw (e, f)

@@ -113,12 +113,10 @@ module _ (y : List ℕ) (z : Stops y) where
   exponent-read : (s : List ℕ) (i : ℕ) (w : List ℕ) → drop i s ≡ w ++ y → (w ≡ []) ⊎ Exponent w → exponent s i ≡ At (i + length w)
   unfolding exponent
   exponent-read s i w h c =
-      ⊎-elim
-      (λ (e : w ≡ []).
+      ⊎-elim (λ (e : w ≡ []).
       let g : drop i s ≡ y = h ∙ ap (λ (x : List ℕ). x ++ y) e in
       let m : i ≡ i + length w = omega (arith, ap length e) in
-      rw (here-get s i y g, z .no-exponent) (ap At m))
-      (λ (x : Exponent w).
+      rw (here-get s i y g, z .no-exponent) (ap At m)) (λ (x : Exponent w).
       let g : drop i s ≡ x .letter ∷ (x .power ++ y) = h ∙ ap (λ (z : List ℕ). z ++ y) (x .parts) in
       let n : drop (i + 1) s ≡ x .power ++ y = here-next s i (x .letter ∷ []) (x .power ++ y) g in
       let bare : length (x .whole .digits) ≡ 0 → isSign (getD y 0 0) ≡ false = λ k. absurd (omega (arith, k, x .some-digit)) in
@@ -161,8 +159,7 @@ module _ (s : List ℕ) (at : ℕ) (t y : List ℕ) (h : drop at s ≡ t ++ y) (
 
   some : (hasWhole s at || hasFraction s (at + length (n .front))) ≡ true
   some =
-      ⊎-elim (λ k. rw (whole-some s at (n .front) (n .back ++ (n .power ++ y)) front (n .whole) stops bare k))
-      (λ k.
+      ⊎-elim (λ k. rw (whole-some s at (n .front) (n .back ++ (n .power ++ y)) front (n .whole) stops bare k)) (λ k.
       rw (whole-none s at (n .front) (n .back ++ (n .power ++ y)) front (n .whole) stops bare (omega (arith, k)))
       (fraction-some s (at + length (n .front)) (n .back) (n .power ++ y) back (n .fraction) fraction-stops fraction-dot (omega (arith, k, n .some-digit))))
       (less-or-not 0 (length (n .whole .digits)))

@@ -54,10 +54,8 @@ white-none p t n f r w b e =
     ⊎-elim (λ k. at-byte 9 t k) (λ e₁.
     ⊎-elim (λ k. at-byte 10 n k) (λ e₂.
     ⊎-elim (λ k. at-byte 12 f k) (λ e₃.
-    ⊎-elim (λ k. at-byte 13 r k) (λ k. at-byte 32 w k)
-    (either (eqb b 13) (eqb b 32) e₃))
-    (either (eqb b 12) (eqb b 13 || eqb b 32) e₂))
-    (either (eqb b 10) (eqb b 12 || (eqb b 13 || eqb b 32)) e₁))
+    ⊎-elim (λ k. at-byte 13 r k) (λ k. at-byte 32 w k) (either (eqb b 13) (eqb b 32) e₃))
+    (either (eqb b 12) (eqb b 13 || eqb b 32) e₂)) (either (eqb b 10) (eqb b 12 || (eqb b 13 || eqb b 32)) e₁))
     (either (eqb b 9) (eqb b 10 || (eqb b 12 || (eqb b 13 || eqb b 32))) e)
   where
     at-byte : (c : ℕ) → p c ≡ false → eqb b c ≡ true → p b ≡ false

@@ -4,14 +4,6 @@ pub mod ItemAccepted
 pub mod ItemProgress
 pub mod ItemSeams
 pub mod DecimalClaims
-pub mod DecimalByEnd
-pub mod DecimalForms
 pub mod Decimals
-pub mod DecimalProgress
 pub mod EnclosedClaims
-pub mod EnclosedForms
-pub mod EnclosedProgress
 pub mod HashClaims
-pub mod HashForms
-pub mod HashProgress
-pub mod SeparatorProgress

@@ -10,9 +10,7 @@ use Rattle.kind.proofs.Tests.{by-test, or-left, or-right}
 -- a class that the bytes of a kind are of; for the kinds that are not named here, any byte at all
 abbrev classOf : ℕ → ℕ → Bool
 classOf k b =
-    cond (eqb k blank) (isWhiteSpace b)
-    (cond (eqb k star) (is "*" b)
-    (cond (eqb k colon) (is ":" b)
+    cond (eqb k blank) (isWhiteSpace b) (cond (eqb k star) (is "*" b) (cond (eqb k colon) (is ":" b)
     (cond (eqb k small || eqb k capital) (isLetter b) true)))
 
 module _ (b : ℕ) where
@@ -20,22 +18,12 @@ module _ (b : ℕ) where
   of-its-class : classOf (kindOf b) b ≡ true
   unfolding kindOf isLetter
   of-its-class =
-      by-test P (is "\n" b) (λ e. refl)
-      (λ _. by-test P (isWhiteSpace b) (λ e. e)
-      (λ _. by-test P (is "*" b) (λ e. e)
-      (λ _. by-test P (is ":" b) (λ e. e)
-      (λ _. by-test P (is "?" b) (λ e. refl)
-      (λ _. by-test P (is ";" b) (λ e. refl)
-      (λ _. by-test P (is "," b) (λ e. refl)
-      (λ _. by-test P (isSign b) (λ e. refl)
-      (λ _. by-test P (is "." b) (λ e. refl)
-      (λ _. by-test P (is "#" b) (λ e. refl)
-      (λ _. by-test P (isQuote b) (λ e. refl)
-      (λ _. by-test P (is "(" b) (λ e. refl)
-      (λ _. by-test P (is "_" b) (λ e. refl)
-      (λ _. by-test P (isDigit b) (λ e. refl)
-      (λ _. by-test P (isSmall b) (λ e. or-right (isCapital b) e)
-      (λ _. by-test P (isCapital b) (λ e. or-left (isSmall b) e)
+      by-test P (is "\n" b) (λ e. refl) (λ _. by-test P (isWhiteSpace b) (λ e. e) (λ _. by-test P (is "*" b) (λ e. e)
+      (λ _. by-test P (is ":" b) (λ e. e) (λ _. by-test P (is "?" b) (λ e. refl) (λ _. by-test P (is ";" b) (λ e. refl)
+      (λ _. by-test P (is "," b) (λ e. refl) (λ _. by-test P (isSign b) (λ e. refl) (λ _. by-test P (is "." b) (λ e. refl)
+      (λ _. by-test P (is "#" b) (λ e. refl) (λ _. by-test P (isQuote b) (λ e. refl) (λ _. by-test P (is "(" b) (λ e. refl)
+      (λ _. by-test P (is "_" b) (λ e. refl) (λ _. by-test P (isDigit b) (λ e. refl)
+      (λ _. by-test P (isSmall b) (λ e. or-right (isCapital b) e) (λ _. by-test P (isCapital b) (λ e. or-left (isSmall b) e)
       (λ _. by-test P (isAscii b) (λ e. refl) (λ e. refl)))))))))))))))))
     where
       P : ℕ → Type 0

@@ -1,4 +1,2 @@
 -- Laws that belong to no one function.
-pub mod Follow
-pub mod Among
 pub mod Words

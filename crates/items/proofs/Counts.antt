@@ -60,28 +60,22 @@ module _ (s : List ℕ) (place : ℕ) (x : Read) (d : ItemAt s place x) where
   refused′ first n b e q = b .no-more e (rw q at d)
 
   module _ (t : Token) (end : ℕ) (q : x ≡ Read.Token t end) where
-    ends : endsData s end ≡ true
-    ends = go (rw q at d)
-      where
-        go : ItemAt s place (Read.Token t end) → endsData s end ≡ true
-        go (takes m i e) = e
-
-    item-met : metAt s (among place) ≡ metWith entry.Item (among end)
+    item : (metAt s (among place) ≡ metWith entry.Item (among end)) × (endsData s end ≡ true)
     unfolding taken
-    item-met = go (rw q at d)
+    item = go (rw q at d)
       where
-        go : ItemAt s place (Read.Token t end) → metAt s (among place) ≡ metWith entry.Item (among end)
-        go (takes m i e) = met-step s (among place) (taken t end false false) (sym m) ∙ ap (λ c. metWith c (among end)) i
+        go : ItemAt s place (Read.Token t end) → (metAt s (among place) ≡ metWith entry.Item (among end)) × (endsData s end ≡ true)
+        go (takes m i e) = (met-step s (among place) (taken t end false false) (sym m) ∙ ap (λ c. metWith c (among end)) i, e)
 
     moves : (place < length s) × (place < end)
-    moves = inside s (among place) item-met refl
+    moves = inside s (among place) (item .0) refl
 
     pub count-fits′ : (n : ℕ) → n ≤ place → length s < 2 ^ 64 → n + 1 < 2 ^ 64
     count-fits′ n l u = omega (arith, l, u, moves)
 
     module _ (first n : ℕ) (b : Partway s first n place) (k : ℕ) (ek : k ≡ n + 1) where
       after : {r : Data} → Joined s k (among end) r → Items s (among first) r
-      after j = b .one-more _ _ item-met (rw ek at j)
+      after j = b .one-more _ _ (item .0) (rw ek at j)
 
       pub text-over′ : length s ≤ end → Items s (among first) (Data.Items k end)
       text-over′ h = after (ended (end-met s end h))
@@ -94,7 +88,7 @@ module _ (s : List ℕ) (place : ℕ) (x : Read) (d : ItemAt s place x) where
       unfolding endsData
       comma =
           ⊎-elim (λ c. eqb-true (getD s end 0) 44 c) (λ c. absurd (u (eqb-true (getD s end 0) 59 c)))
-          (either (is "," (getD s end 0)) (is ";" (getD s end 0)) (rw (lt-leb (length s) end h) at ends))
+          (either (is "," (getD s end 0)) (is ";" (getD s end 0)) (rw (lt-leb (length s) end h) at (item .1)))
 
       pub comma-wrong′ : (first n : ℕ) → Partway s first n place → (c : ErrorCode) → p ≡ Pass.Refused c → Items s (among first) (Data.Refused c)
       comma-wrong′ first n b c f = after first n b (n + 1) refl (refused (comma-refused s end h p comma ep c f))

@@ -3,10 +3,10 @@ use Prim.Native.Nat.{ℕ, _+_, _-_, _≤_, _<_}
 use mathlib.Core.Path.{_≡_, refl, sym, ap, subst, _∙_}
 use mathlib.Core.Logic.{_⊎_, inl, inr, ⊎-elim}
 use mathlib.Core.List.{List}
-use mathlib.Core.Bool.{Bool, true, false, not, _||_}
+use mathlib.Core.Bool.{Bool, true, false, not, _&&_, _||_}
 use native.Mathlib.Omega.{arith}
-use lib.Dec.{eqb, leb}
-use lib.ListN.{length, getD}
+use lib.Dec.{eqb, leb, ltb}
+use lib.ListN.{length, getD, take, drop}
 use borrow.Author.Needs.{needs}
 use borrow.Author.Tests.{eqb-true, leb-true, le-leb, lt-leb, ne-eqb}
 use Rattle.error.specs.{declared.ErrorCode.ErrorCode, declared.ErrorCode.the-variants.SyntaxError}
@@ -14,14 +14,18 @@ use Rattle.kind.specs.Class.{is, isWhiteSpace, isCapital, isSmall, isDigit, isL
 use Rattle.kind.specs.Kind.{kindOf}
 use Rattle.kind.proofs.Bytes.{agrees}
 use Rattle.kind.proofs.Tests.{by-test, either, or-left, or-right, and-right, clash, less-or-not}
-use Rattle.util.specs.Run.{runEnd}
-use Rattle.token.specs.declared.Token.{Token}
+use Rattle.util.specs.Run.{runEnd, standsAt, every}
+use Rattle.number.specs.{Digit.valueOf, Number.unsignedAt, declared.Unsigned.Unsigned}
+use Rattle.number.specs.declared.Radix.the-variants.{Binary, Octal, Hexadecimal}
+use Rattle.token.specs.{declared.View.View, declared.Token.Token}
 use Rattle.token.specs.declared.Token.the-variants.{HeaderMnemonicSeparator, HeaderQuerySuffix, ProgramDataSeparator}
-use Rattle.item.specs.Word.{starEnd, mnemonic, characterData}
-use Rattle.item.specs.declared.Read.{Read}
-use Rattle.decimal.specs.Decimal.{numericData}
-use Rattle.enclosed.specs.{String.stringData, Expression.expressionData}
-use Rattle.hash.specs.Block.{hashData}
+use Rattle.item.specs.{Follow.endsData, Follow.followed, Word.starEnd, Word.mnemonic, Word.characterData, declared.Read.Read}
+use Rattle.decimal.specs.Decimal.{inSuffix, beginsSuffix, suffixed, suffixData, numericData}
+use Rattle.forms.proofs.ItemProgress.{by-end}
+use Rattle.enclosed.specs.{String.stringEnd, String.closed, String.stringData}
+use Rattle.enclosed.specs.Expression.{inExpression, bracketed, expressionData}
+use Rattle.hash.specs.Nondecimal.{nondecimalOf, nondecimalData}
+use Rattle.hash.specs.Block.{payload, definite, indefinite, arbitraryData, hashBy, hashData}
 use Rattle.separator.specs.Separator.{newlineTo, colonTo, questionTo, commaTo}
 use Rattle.separator.specs.declared.Pass.{Pass}
 use Rattle.tokenizer.specs.Step.{taken, refusal, ended, readAs, passed, endedBy, newlineBefore, colonBefore, questionBefore, commaBefore, byKind, step}
@@ -29,10 +33,71 @@ use Rattle.tokenizer.specs.{declared.State.State, declared.Answer.Answer, decla
 use Rattle.tokenizer.proofs.Steps.{word-data′, outside-data′, letter′, parenthesis′, hash′, quote′, number′}
 use Rattle.tokens.proofs.StepClaims.{claims}
 use Rattle.items.specs.Entry.{tokenEntry, metWith, metOf, metAt}
+use Rattle.items.specs.Entry as entry
 use Rattle.items.specs.Internal.{beginsNumber, beginsData, endsUnit, among, ItemAt, takes, refuses, at-comma, at-end, newlineData}
 use Rattle.items.specs.declared.Data.the-variants as found
-use Rattle.items.proofs.Readers.{DataRead, character-data, numeric-data, expression-data, string-data, hash-data}
 use Rattle.items.proofs.Meets.{met-step, end-met}
+
+-- What the readers of the forms read is program data, and is followed as an item is.
+module _ (s : List ℕ) where
+  abbrev DataRead : Read → Type 0
+  DataRead (Read.Token t next) = (tokenEntry t ≡ entry.Item) × (endsData s next ≡ true)
+  DataRead (Read.Refused e) = Unit {0}
+
+  followed-data : (t : Token) (e : ErrorCode) (end : ℕ) → tokenEntry t ≡ entry.Item → DataRead (followed t e s end)
+  unfolding followed
+  followed-data t e end h = by-test DataRead (endsData s (runEnd isWhiteSpace s end)) (λ k. (h, k)) (λ _. tt)
+
+  character-data : (at : ℕ) → DataRead (characterData s at)
+  unfolding characterData
+  character-data at = by-test DataRead (leb (runEnd inMnemonic s at - at) 12) (λ _. followed-data _ _ _ refl) (λ _. tt)
+
+  suffix-data : (v : View) → DataRead (suffixData s v)
+  unfolding suffixData suffixed
+  suffix-data v =
+      let from : ℕ = runEnd isWhiteSpace s (v .end) in
+      let short = leb (runEnd inSuffix s from - from) 12 in
+      by-test DataRead (beginsSuffix s from) (λ _. by-test DataRead short (λ _. followed-data _ _ _ refl) (λ _. tt)) (λ _. followed-data _ _ _ refl)
+
+  numeric-data : (at : ℕ) → DataRead (numericData s at)
+  numeric-data at = by-end s at DataRead (λ _. tt) suffix-data
+
+  expression-data : (at : ℕ) → DataRead (expressionData s at)
+  unfolding expressionData bracketed
+  expression-data at = by-test DataRead (standsAt 41 s (runEnd inExpression s at)) (λ _. followed-data _ _ _ refl) (λ _. tt)
+
+  string-data : (q at : ℕ) → DataRead (stringData q s at)
+  unfolding stringData closed
+  string-data q at =
+      let end : ℕ = stringEnd q s at in
+      by-test DataRead (leb (length s) end) (λ _. tt) (λ _. by-test DataRead (eqb (getD s end 0) q) (λ _. followed-data _ _ _ refl) (λ _. tt))
+
+  nondecimal-of : (at : ℕ) (u : Unsigned) → DataRead (nondecimalOf s at u)
+  unfolding nondecimalOf
+  nondecimal-of at (Unsigned.Value v end) = followed-data _ _ _ refl
+  nondecimal-of at Unsigned.TooLarge = tt
+  nondecimal-of at Unsigned.NoDigit = by-test DataRead (leb (length s) at) (λ _. tt) (λ _. tt)
+
+  block-data : (b at : ℕ) → DataRead (arbitraryData b s at)
+  unfolding arbitraryData indefinite definite payload endsData
+  block-data b at =
+      let n : ℕ = b - 48 in
+      by-test DataRead (isDigit b)
+      (λ _. by-test DataRead (is "0" b)
+      (λ _. by-test DataRead (ltb at (length s) && is "\n" (getD s (length s - 1) 0)) (λ _. (refl, or-left _ (le-leb (length s) (length s) (omega arith)))) (λ _. tt))
+      (λ _. by-test DataRead (leb (at + n) (length s) && every isDigit (take n (drop at s)))
+      (λ _. by-test DataRead (leb (at + n + valueOf 10 (take n (drop at s))) (length s)) (λ _. followed-data _ _ _ refl) (λ _. tt))
+      (λ _. tt))) (λ _. tt)
+
+  hash-data : (at : ℕ) → DataRead (hashData s at)
+  unfolding hashData hashBy nondecimalData
+  hash-data at =
+      let b : ℕ = getD s at 0 in
+      by-test DataRead (leb (length s) at) (λ _. tt)
+      (λ _. by-test DataRead (isDigit b) (λ _. block-data b (at + 1))
+      (λ _. by-test DataRead (is "H" b || is "h" b) (λ _. nondecimal-of (at + 1) (unsignedAt Hexadecimal s (at + 1)))
+      (λ _. by-test DataRead (is "Q" b || is "q" b) (λ _. nondecimal-of (at + 1) (unsignedAt Octal s (at + 1)))
+      (λ _. by-test DataRead (is "B" b || is "b" b) (λ _. nondecimal-of (at + 1) (unsignedAt Binary s (at + 1))) (λ _. tt)))))
 
 -- What begins a number.
 module _ (b : ℕ) where
@@ -145,17 +210,13 @@ module _ (s : List ℕ) (at : ℕ) where
         letter : {A : Type 0} → isLetter b ≡ true → A
         letter e = begun (or-left (beginsNumber b || (isQuote b || (is "#" b || is "(" b))) e)
 
-    by-kind : at < length s → byKind s st at b (kindOf b) ≡ step s st
-    unfolding step
-    by-kind h = rw (lt-leb (length s) at h)
-
     -- the answer of the token step there
     module _ (x : Step) (e : x ≡ step s st) where
       bare : (a : Answer) → x .answer ≡ a → ItemAt s at (answered a)
-      unfolding endsUnit
+      unfolding endsUnit step
       bare a q =
           subst (λ (c : Answer). ItemAt s at (answered c)) q
-          (⊎-elim (λ h. subst Bare (by-kind h ∙ sym e) bare-kind (met-step s st x e))
+          (⊎-elim (λ h. let z : byKind s st at b (kindOf b) ≡ x = sym (e ∙ rw (lt-leb (length s) at h)) in subst Bare z bare-kind (met-step s st x e))
           (λ h. subst (λ (y : Step). ItemAt s at (answered (y .answer))) (sym (claims .rests s st h) ∙ sym e) (at-end (or-left (is "\n" b || is ";" b) (le-leb (length s) at h)) (end-met s at h)))
           (less-or-not at (length s)))
 
@@ -215,11 +276,7 @@ module _ (s : List ℕ) (at : ℕ) where
     unfolding kindOf isWhiteSpace isSign isQuote
     string-read′ e er =
         as-item r (rw er (string-data s (getD s at 0) (at + 1)))
-        (quote′ s (among at) h k refl x (kind e) (outside-data′ s (among at) at x (stringData (getD s at 0) s (at + 1)) refl r er refl))
-      where
-        kind : (getD s at 0 ≡ 34) ⊎ (getD s at 0 ≡ 39) → k ≡ 10
-        kind (inl f) = rw f
-        kind (inr f) = rw f
+        (quote′ s (among at) h k refl x (⊎-elim (λ f. rw f) (λ f. rw f) e) (outside-data′ s (among at) at x (stringData (getD s at 0) s (at + 1)) refl r er refl))
 
 -- a byte that no reader takes begins no data
 pub none-begins′ : (b : ℕ) → (b ≡ 40 → ⊥) → (l : Bool) → l ≡ isLetter b → l ≡ false → (n : Bool) → n ≡ beginsNumber b → n ≡ false → ((b ≡ 34) ⊎ (b ≡ 39) → ⊥) → (b ≡ 35 → ⊥)

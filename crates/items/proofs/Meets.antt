@@ -1,7 +1,7 @@
 -- What is met among the data, by the byte at the place.
 use Prim.Native.Nat.{ℕ, _+_, _≤_, _<_}
 use mathlib.Core.Path.{_≡_, refl, sym, ap, _∙_}
-use mathlib.Core.Logic.{_⊎_, inl, inr}
+use mathlib.Core.Logic.{⊎-elim}
 use mathlib.Core.List.{List}
 use mathlib.Core.Bool.{Bool, true, false}
 use lib.ListN.{length, getD}
@@ -34,11 +34,10 @@ isEnd (entry.Refused e) = false
 -- what is met before the end of the data is in the text, and moves the place
 pub inside : (s : List ℕ) (st : State) {next : State} {x : Entry} → metAt s st ≡ metWith x next → isEnd x ≡ false → (st .place < length s) × (st .place < next .place)
 unfolding metAt
-inside s st {next} {x} e f = go (less-or-not (st .place) (length s))
-  where
-    go : (st .place < length s) ⊎ (length s ≤ st .place) → (st .place < length s) × (st .place < next .place)
-    go (inl l) = (l, rw (ap (λ (m : Met). m .state .place) e) at (claims .moves s st l))
-    go (inr l) = clash (sym (ap (λ (m : Met). isEnd (m .entry)) e) ∙ ap (λ (y : Step). isEnd (entryOf (y .answer))) (claims .rests s st l)) f
+inside s st {next} {x} e f =
+    ⊎-elim (λ l. (l, rw (ap (λ (m : Met). m .state .place) e) at (claims .moves s st l)))
+    (λ l. clash (sym (ap (λ (m : Met). isEnd (m .entry)) e) ∙ ap (λ (y : Step). isEnd (entryOf (y .answer))) (claims .rests s st l)) f)
+    (less-or-not (st .place) (length s))
 
 module _ (s : List ℕ) (at : ℕ) where
   abbrev st : State

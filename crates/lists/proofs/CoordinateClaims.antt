@@ -24,10 +24,9 @@ use Rattle.channel_spec.specs.Item.{refusal, bangEnd, itemBy, itemOf, itemAt}
 use Rattle.coordinate.specs.Coordinate.{parts, integer, both, integers, written, coordinateOf, pairOf, tripleOf}
 use Rattle.coordinate.specs.Form.{signedBy, Decimal, Coordinates, Walk}
 use Rattle.coordinate.specs.{Form.Coordinates.one, Form.Coordinates.more, Form.Walk.ends, Form.Walk.gives, declared.Pair.Pair}
-use Rattle.coordinate.proofs.Integers.{Read, some-byte, decimal-read, integer-form}
-use Rattle.channel_spec.proofs.Items.{end′}
+use Rattle.coordinate.proofs.Parts.{Read, some-byte, decimal-read, integer-form, Front, front-of, plain, whole-plain, parts-before, integer-of, integer-is}
+use Rattle.channel_spec.proofs.Specs.{end′}
 use Rattle.coordinate.proofs.Coordinates.{bangs-joined, bangs-plain, one′}
-use Rattle.coordinate.proofs.Parts.{Front, front-of, plain, whole-plain, parts-before, integer-of, integer-is}
 use Rattle.channel_spec.specs.declared.Item.the-variants as item
 use Rattle.coordinate.specs.declared.Coordinate.the-variants as coordinate
 use Rattle.channel_spec.specs.declared.Step.{Step}
@@ -63,9 +62,7 @@ digits-of (suc most) n h = ⊎-elim small (λ k. large (digits-of most (n / 10) 
           row = f .row ++ ((48 + n % 10) ∷ []);
           some-digit = omega (arith, f .some-digit, length-append (f .row) ((48 + n % 10) ∷ []));
           all-digit = every-join isDigit (f .row) ((48 + n % 10) ∷ []) (f .all-digit) (rw (digit (n % 10) l .0));
-          value =
-              number.claims .one-more 10 (f .row) (48 + n % 10)
-              ∙ rw (f .value, digit (n % 10) l .1) (div-add-mod' n 10);
+          value = number.claims .one-more 10 (f .row) (48 + n % 10) ∙ rw (f .value, digit (n % 10) l .1) (div-add-mod' n 10);
         }
 
 -- the digits of a number, and a minus before them where it is below zero
@@ -119,16 +116,13 @@ read-coordinates (p ∷ ps) t vs e q = go (values-apart (integer p) (integers ps
     go : (v : ℤ) × (ws : List ℤ) × (integer p ≡ some v) × (integers ps ≡ some ws) × (vs ≡ v ∷ ws)
         → ((u : List ℕ) (ws : List ℤ) → parts u ≡ ps → integers ps ≡ some ws → Coordinates u ws) → Coordinates t vs
     go (v, ws, ei, em, ev) rest =
-        ⊎-elim
-        (λ (k : (f .others ≡ []) × (f .back ≡ [])).
+        ⊎-elim (λ (k : (f .others ≡ []) × (f .back ≡ [])).
         let n : ps ≡ [] = cc same in
         let z : ws ≡ [] = cc (rw n at em) in
         let w : t ≡ p = cc (whole-text, append-nil p) in
-        rw (w, ev, z) (one p v (integer-is p v ei)))
-        (λ (k : (u : List ℕ) × (f .back ≡ 33 ∷ u) × (parts u ≡ f .others)).
+        rw (w, ev, z) (one p v (integer-is p v ei))) (λ (k : (u : List ℕ) × (f .back ≡ 33 ∷ u) × (parts u ≡ f .others)).
         let w : t ≡ p ++ (33 ∷ k .0) = cc whole-text in
-        rw (w, ev) (more p (k .0) v ws (integer-is p v ei) (rest (k .0) ws (cc same) em)))
-        (f .ends)
+        rw (w, ev) (more p (k .0) v ws (integer-is p v ei) (rest (k .0) ws (cc same) em))) (f .ends)
 
 -- Two and three of them.
 two : (m : Option (List ℤ)) (a b : ℤ) → pairOf m ≡ Pair.Values a b → m ≡ some (a ∷ b ∷ [])

@@ -1,5 +1,3 @@
 pub mod NumericClaims
-pub mod NumericProgress
 pub mod ChannelClaims
-pub mod ChannelProgress
 pub mod CoordinateClaims

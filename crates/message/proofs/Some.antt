@@ -1,7 +1,7 @@
 -- Every message has units and an ending.
 use Prim.Native.Nat.{ℕ, zero, suc, _-_, _≤_, _<_}
 use mathlib.Core.Path.{_≡_, refl}
-use mathlib.Core.Logic.{_⊎_, inl, inr}
+use mathlib.Core.Logic.{_⊎_, inl, inr, ⊎-elim}
 use mathlib.Core.List.{List}
 use mathlib.Core.Bool.{Bool, true, false}
 use native.Mathlib.Omega.{arith}
@@ -20,11 +20,7 @@ use Rattle.message.proofs.Fronts.{past-text}
 -- a token that does not end the message moves the place
 pub inside : (s : List ℕ) (st : State) → isEnd ((seenAt s st) .ahead) ≡ false → (st .place < length s) × (st .place < (seenAt s st) .state .place)
 unfolding seenAt
-inside s st f = go (less-or-not (st .place) (length s))
-  where
-    go : (st .place < length s) ⊎ (length s ≤ st .place) → (st .place < length s) × (st .place < (seenAt s st) .state .place)
-    go (inl l) = (l, tokens.claims .moves s st l)
-    go (inr l) = clash (past-text s st l) f
+inside s st f = ⊎-elim (λ l. (l, tokens.claims .moves s st l)) (λ l. clash (past-text s st l) f) (less-or-not (st .place) (length s))
 
 module _ (t names s : List ℕ) where
   within : (f b p : ℕ) → length s - p < f → (us : List Record) × (e : Ending) × Units t names s b p us e

@@ -1,7 +1,7 @@
 -- Laws of the walk, as the code meets them.
 use Prim.Native.Nat.{ℕ, suc, _+_, _-_, _≤_, _<_}
 use mathlib.Core.Path.{_≡_, refl, sym, ap, subst, _∙_}
-use mathlib.Core.List.{List, [], _∷_, _++_, map}
+use mathlib.Core.List.{List, [], _∷_, _++_, map, append-nil, append-assoc}
 use mathlib.Core.Bool.{Bool, true, false}
 use native.Mathlib.Omega.{arith}
 use lib.ListN.{length, set, length-set, length-append}
@@ -40,20 +40,6 @@ all-taken [] vs (x ∷ slots) h = absurd (omega (arith, h))
 all-taken (u ∷ us) vs [] h = refl
 all-taken (u ∷ us) vs (x ∷ slots) h = ap (λ l. wordOf u ∷ l) (all-taken us vs slots (omega (arith, h)))
 
-to-end : (us : List Record) → us ++ [] ≡ us
-to-end [] = refl
-to-end (u ∷ us) = ap (λ l. u ∷ l) (to-end us)
-
-one-behind : (us : List Record) (u : Record) (vs : List Record) → us ++ (u ∷ vs) ≡ (us ++ (u ∷ [])) ++ vs
-one-behind [] u vs = refl
-one-behind (v ∷ us) u vs = ap (λ l. v ∷ l) (one-behind us u vs)
-
--- the outcome where there is a slot for each unit, and where there is none for the last
-fitting : (slots : List ℕ) (us : List Record) (e : Ending) → length us ≤ length slots
-    → recorded slots us e ≡ record { says = told (length us) e; slots = written (map wordOf us) slots }
-unfolding recorded
-fitting slots us e h = rw (le-leb _ _ h)
-
 -- So far: the units that are read and written, and that what follows them is the rest of the message.
 pub record SoFar (t names s : List ℕ) (start : ℕ) (before : List ℕ) (count kept p : ℕ) (slots : List ℕ) : Type 0 where
   pub units : List Record
@@ -72,14 +58,11 @@ module _ (t names s : List ℕ) (start : ℕ) (before : List ℕ) (count kept p 
 
   -- the walk ends here, with all units written
   ends : (e : Ending) → Units t names s kept p [] e → Walks M before (told count e) slots
+  unfolding recorded
   ends e h =
-      record {
-        units = so .units;
-        ending = e;
-        reads = subst (λ (us : List Record). M us e) (to-end (so .units)) (so .back [] e h);
-        outcome =
-            rw (so .words, ← so .number) (sym (fitting before (so .units) e (rw (← so .number) at (so .room))));
-      }
+      let fits : length (so .units) ≤ length before = rw (← so .number) at (so .room) in
+      let all : M (so .units) e = subst (λ (us : List Record). M us e) (append-nil (so .units)) (so .back [] e h) in
+      record { units = so .units; ending = e; reads = all; outcome = rw (so .words, ← so .number, le-leb _ _ fits) }
 
   pub past′ : length s ≤ p → Walks M before (walked.Units count) slots
   past′ l = ends complete (none (past-text s (stateOf p true false) l))
@@ -88,15 +71,12 @@ module _ (t names s : List ℕ) (start : ℕ) (before : List ℕ) (count kept p 
   done′ q o h = ends complete (none (sym o ∙ h))
 
   module _ (r : Unit) (y : Reads t names s kept (beginningAt s p) r) where
-    read : (x : Unit) → r ≡ x → Reads t names s kept (beginningAt s p) x
-    read x f = subst (λ (z : Unit). Reads t names s kept (beginningAt s p) z) f y
-
     pub refused′ : (q : Bool) → q ≡ isEnd (beginningAt s p .ahead) → q ≡ false → (e : ErrorCode) → r ≡ Unit.Refused e → Walks M before (walked.Refused count e) slots
-    refused′ q o h e f = ends (refused e) (stopped (sym o ∙ h) (read _ f))
+    refused′ q o h e f = ends (refused e) (stopped (sym o ∙ h) (rw f at y))
 
     module _ (u : Record) (after : ℕ) (f : r ≡ Unit.Read u after) where
       whole : (us : List Record) (e : Ending) → Units t names s (u .branch) after us e → M (so .units ++ (u ∷ us)) e
-      whole us e x = so .back _ e (next (unit-begun (read _ f)) (read _ f) x)
+      whole us e x = so .back _ e (next (unit-begun (rw f at y)) (rw f at y) x)
 
       pub full′ : length slots ≤ count → Walks M before (walked.Refused count ErrorCode.NoSlotLeft) slots
       unfolding recorded
@@ -124,7 +104,7 @@ module _ (t names s : List ℕ) (start : ℕ) (before : List ℕ) (count kept p 
             number = length-append us (u ∷ []) ∙ omega (arith, so .number, g);
             room = omega (arith, inside, g);
             words = o ∙ rw (e, so .words, ← so .number) (one-more us u before more);
-            back = λ vs x z. subst (λ (a : List Record). M a x) (one-behind us u vs) (whole vs x z);
+            back = λ vs x z. subst (λ (a : List Record). M a x) (sym (append-assoc us (u ∷ []) vs)) (whole vs x z);
           }
 
 pub less′ : (count n j : ℕ) → count < n → j ≡ count + 1 → n - j < n - count

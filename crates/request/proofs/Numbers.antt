@@ -12,7 +12,7 @@ use lib.Seq.{slice, take-length, take-add, drop-at, length-take-le}
 use borrow.Author.Needs.{needs}
 use borrow.Author.Tests.{le-leb, lt-leb, lt-ltb, le-ltb, eq-eqb, ne-eqb}
 use Rattle.kind.specs.Class.{isDigit}
-use Rattle.kind.proofs.Tests.{less-or-not, clash}
+use Rattle.kind.proofs.Tests.{less-or-not, clash, by-test}
 use Rattle.util.specs.Run.{run, every}
 use Rattle.util.proofs.Every.{every-run, run-every}
 use Rattle.number.specs.{Digit.isDigitOf, Digit.valueOf, declared.Radix.the-variants.Decimal, declared.Unsigned.Unsigned}
@@ -46,11 +46,7 @@ module _ (v e n : ℕ) where
 
   goes-on : e < n → (c : Bool) → whole n (cond c (foundAt v 0 e) Unsigned.TooLarge) ≡ Bad
   unfolding foundAt
-  goes-on h true = either (eqb e 0)
-    where
-      either : (d : Bool) → whole n (cond d Unsigned.NoDigit (Unsigned.Value v e)) ≡ Bad
-      either true = refl
-      either false = rw (lt-leb n e h)
+  goes-on h true = by-test (λ (u : Unsigned). whole n u ≡ Bad) (eqb e 0) (λ _. refl) (λ _. rw (lt-leb n e h))
   goes-on h false = refl
 
 module _ (t : List ℕ) where
@@ -64,15 +60,13 @@ module _ (t : List ℕ) where
   unfolding numberOf isNumber
   by-digits true p =
       rw (by-run (length t) (sym (every-run isDigit t p)), take-length t, p)
-      (⊎-elim
-      (λ h. rw (lt-ltb 0 (length t) h) (ends (valueOf 10 t) (length t) (length t) h (le-refl (length t)) (ltb (valueOf 10 t) (2 ^ 64))))
+      (⊎-elim (λ h. rw (lt-ltb 0 (length t) h) (ends (valueOf 10 t) (length t) (length t) h (le-refl (length t)) (ltb (valueOf 10 t) (2 ^ 64))))
       (λ h. rw (le-ltb 0 (length t) h) (none (valueOf 10 t) (length t) (length t) (omega arith) (ltb (valueOf 10 t) (2 ^ 64))))
       (less-or-not 0 (length t)))
   by-digits false p =
       let v : ℕ = valueOf 10 (take (run isDigit t) t) in
       rw (by-run (run isDigit t) refl, p, and-false)
-      (⊎-elim
-      (λ h. goes-on v (run isDigit t) (length t) h (ltb v (2 ^ 64)))
+      (⊎-elim (λ h. goes-on v (run isDigit t) (length t) h (ltb v (2 ^ 64)))
       (λ h. clash (run-every isDigit t (omega (arith, taken isDigit t, length-take (run isDigit t) t))) p)
       (less-or-not (run isDigit t) (length t)))
 
@@ -99,8 +93,8 @@ module _ (s : List ℕ) (from to : ℕ) where
   pub part : from ≤ to → to ≤ length s → take (to - from) (drop from s) ≡ slice from to s
   part h l =
       let e : from + (to - from) ≡ to = omega arith in
-      sym (ap (λ (k : ℕ). drop from (take k s)) (sym e) ∙ ap (λ (x : List ℕ). drop from x) (take-add from (to - from) s)
-      ∙ drop-at (take from s) (take (to - from) (drop from s)) from (length-take-le from s (omega arith)))
+      let d = drop-at (take from s) (take (to - from) (drop from s)) from (length-take-le from s (omega arith)) in
+      sym ((rw (← take-add, e) at d))
 
   pub reversed′ : to < from → Bad ≡ numberIn s from to
   unfolding numberIn

@@ -11,14 +11,27 @@ use lib.Dec.{eqb}
 use lib.ListN.{length, getD, set}
 use lib.Seq.{slice, slice-cons, slice-empty, length-slice, sets, sets-eq}
 use borrow.Author.Needs.{needs}
-use borrow.Author.Tests.{eq-eqb, ne-eqb}
+use borrow.Author.Tests.{eq-eqb, ne-eqb, lt-ltb, le-ltb, ltb-true}
 use mir.Syntax.{w8}
 use mir.Val.{Fits}
 use Rattle.kind.proofs.Tests.{and-left, and-right}
-use Rattle.number.specs.Digit.{digitOf}
+use Rattle.number.specs.Digit.{digitOf, isDigitOf}
 use Rattle.request.specs.Hex.{isHex, arePairs, bytesOf, isDash}
 use Rattle.request.specs.{Unhex.Outcome, Unhex.written, declared.Text.the-variants.Until}
-use Rattle.request.proofs.Digits.{hex, no-hex, value}
+
+-- hex digits, told by their value
+module _ (b x : ℕ) (e : x ≡ digitOf b) where
+  hex : x < 16 → isHex b ≡ true
+  unfolding isDigitOf
+  hex h = rw (← e) (lt-ltb x 16 h)
+
+  no-hex : 16 ≤ x → isHex b ≡ false
+  unfolding isDigitOf
+  no-hex h = rw (← e) (le-ltb x 16 h)
+
+  value : isHex b ≡ true → x < 16
+  unfolding isDigitOf
+  value h = rw e (ltb-true (digitOf b) 16 h)
 
 -- the front of a part
 module _ (s : List ℕ) (i to : ℕ) (l : to ≤ length s) where
@@ -26,15 +39,12 @@ module _ (s : List ℕ) (i to : ℕ) (l : to ≤ length s) where
   none e = rw e (slice-empty to s)
 
   one : i < to → to ≤ i + 1 → slice i to s ≡ getD s i 0 ∷ []
-  one h k =
-      let e : suc i ≡ to = omega arith in
-      slice-cons i to s 0 h l ∙ ap (λ (t : List ℕ). getD s i 0 ∷ t) (rw e (slice-empty to s))
+  one h k = let e : suc i ≡ to = omega arith in slice-cons i to s 0 h l ∙ rw (e, slice-empty)
 
   two : i + 2 ≤ to → slice i to s ≡ getD s i 0 ∷ getD s (i + 1) 0 ∷ slice (i + 2) to s
   two h =
       let e : suc (suc i) ≡ i + 2 = omega arith in
-      slice-cons i to s 0 (omega arith) l
-      ∙ ap (λ (t : List ℕ). getD s i 0 ∷ t) (rw (add-one, ← e) (slice-cons (suc i) to s 0 (omega arith) l))
+      slice-cons i to s 0 (omega arith) l ∙ rw (add-one, ← e, slice-cons (suc i) to s 0 (omega arith) l)
 
 both : (a b c : Bool) → a && (b && c) ≡ true → (a ≡ true) × (b ≡ true) × (c ≡ true)
 both a b c e = (and-left a (b && c) e, and-left b c (and-right a (b && c) e), and-right b c (and-right a (b && c) e))
@@ -101,10 +111,6 @@ fill-one : (out : List ℕ) (k b : ℕ) (t : List ℕ) → filled out k (b ∷ t
 unfolding filled
 fill-one out k b t = rw (add-one k, add-suc k (length t), suc-add k (length t))
 
-fill-all : (out : List ℕ) (k : ℕ) (t : List ℕ) → k + length t ≤ length out → filled out k t ≡ written out k t
-unfolding filled
-fill-all out k t h = rw (sets-eq t out k h)
-
 module _ (s : List ℕ) (i to : ℕ) (l : to ≤ length s) (ps : arePairs (slice i to s) ≡ true) where
   split : i + 2 ≤ to → (isHex (getD s i 0) ≡ true) × (isHex (getD s (i + 1) 0) ≡ true) × (arePairs (slice (i + 2) to s) ≡ true)
   unfolding arePairs
@@ -122,13 +128,12 @@ module _ (s : List ℕ) (i to : ℕ) (l : to ≤ length s) (ps : arePairs (slice
         pub byte-fits′ : Fits w8 (x * 16 + y)
         byte-fits′ = omega (arith, value (getD s i 0) x ex (split (omega arith) .0), value (getD s (i + 1) 0) y ey (split (omega arith) .1))
 
-        byte-on : bytesOf (slice i to s) ≡ (x * 16 + y) ∷ bytesOf (slice (i + 2) to s)
-        unfolding bytesOf
-        byte-on = rw (two s i to l (omega arith), ex, ey)
-
         pub filled-on′ : (o out t : List ℕ) (at k j m : ℕ) → filled o at t ≡ filled out k (bytesOf (slice i to s)) → j ≡ i + 2 → m ≡ k + 1
             → filled o at t ≡ filled (set out k (x * 16 + y)) m (bytesOf (slice j to s))
-        filled-on′ o out t at k j m inv q r = inv ∙ rw (byte-on, fill-one, q, r)
+        unfolding bytesOf
+        filled-on′ o out t at k j m inv q r =
+            let b : bytesOf (slice i to s) ≡ (x * 16 + y) ∷ bytesOf (slice (i + 2) to s) = rw (two s i to l (omega arith), ex, ey) in
+            inv ∙ rw (b, fill-one, q, r)
 
 pub filled-up′ : (s o out : List ℕ) (from to i at k : ℕ) → to ≤ length s → i ≤ to → to ≤ i → at + (to - from) / 2 ≤ length o
     → filled o at (bytesOf (slice from to s)) ≡ filled out k (bytesOf (slice i to s))
@@ -137,6 +142,7 @@ unfolding filled bytesOf
 filled-up′ s o out from to i at k l h h′ f inv =
     let e : k + 0 ≡ k = omega arith in
     let w : at + length (bytesOf (slice from to s)) ≤ length o = omega (arith, bytes-length s from to l) in
-    sym (sym (fill-all o at (bytesOf (slice from to s)) w) ∙ inv ∙ rw (none s i to l (omega arith), e))
+    let g : filled o at (bytesOf (slice from to s)) ≡ written o at (bytesOf (slice from to s)) = rw (sets-eq (bytesOf (slice from to s)) o at w) in
+    sym (sym g ∙ inv ∙ rw (none s i to l (omega arith), e))
 
 pub ruleset laws = (needs, no-dash′, dash′, first-no-hex′, second-no-hex′, more-pairs′, no-more′, even′, pairs-on′, high-fits′, byte-fits′, filled-on′, filled-up′)

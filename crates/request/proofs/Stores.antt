@@ -1,4 +1,4 @@
--- Words written one after the other.
+-- What stands between commas, cut off one piece after the other, and words written one after the other.
 use Prim.Native.Nat.{ℕ, suc, _+_, _-_, _≤_, _<_}
 use mathlib.Core.Path.{_≡_, refl, sym, ap, _∙_}
 use mathlib.Core.List.{List, [], _∷_}
@@ -7,17 +7,62 @@ use native.Mathlib.Nat.{add-suc, suc-add}
 use native.Mathlib.Numerals.{add-one}
 use native.Mathlib.Omega.{arith}
 use lib.Dec.{eqb}
-use lib.ListN.{length, getD, set, take, drop}
-use lib.Seq.{sets, set-out, take-nil}
+use lib.ListN.{length, getD, set, take, drop, length-take, length-drop, drop-of-length-le}
+use lib.Seq.{drop-cons, drop-drop, sets, set-out, take-nil}
 use borrow.Author.Needs.{needs}
 use borrow.Author.Tests.{le-leb, lt-leb}
-use Rattle.util.specs.Run.{runEnd}
-use Rattle.number.specs.Digit.{valueOf}
+use Rattle.kind.proofs.Tests.{by-test}
+use Rattle.util.specs.Run.{run, runEnd}
+use Rattle.number.{specs.Digit.valueOf, proofs.Values.taken}
 use Rattle.request.specs.{Hex.isDash, Slash.isOther, Number.isNumber, Number.numberOf, declared.table.Number.Number}
-use Rattle.request.specs.Words.{Outcome, pieces, piecesOf, areNumbers, numbersOf, over, written, wordsIn}
+use Rattle.request.specs.Words.{Outcome, onFirst, pieces, piecesOf, areNumbers, numbersOf, over, written, wordsIn}
 use Rattle.request.specs.declared.table.Words.the-variants.{Count, Bad}
 use Rattle.request.proofs.Numbers.{part}
-use Rattle.request.proofs.Pieces.{some-piece, end-from′, further′, no-more-words′, end-in′, last-piece, next-piece}
+
+-- how far the first piece goes
+long : List ℕ → ℕ
+long t = run (isOther 44) t
+
+-- the pieces behind the comma that a text begins with
+behind : List ℕ → List (List ℕ)
+behind [] = []
+behind (b ∷ t) = pieces t
+
+cut : (t : List ℕ) → pieces t ≡ take (long t) t ∷ behind (drop (long t) t)
+unfolding pieces onFirst run long behind
+cut [] = refl
+cut (b ∷ t) = by-test (λ (r : List (List ℕ)). r ≡ take (long (b ∷ t)) (b ∷ t) ∷ behind (drop (long (b ∷ t)) (b ∷ t))) (eqb b 44) (λ e. rw e) (λ e. rw (e, cut t))
+
+-- As the loop meets it: the first piece from a place on ends at a comma, or at the end of the text.
+module _ (s : List ℕ) (at end : ℕ) (h : at ≤ length s) (e : end ≡ runEnd (isOther 44) s at) where
+  pub end-from′ : at ≤ end
+  unfolding runEnd
+  end-from′ = omega arith
+
+  pub further′ : end < length s → length s - (end + 1) < length s - at
+  further′ k = omega (arith, end-from′)
+
+  pub no-more-words′ : (n : ℕ) → n ≤ at → n + 1 ≤ end + 1
+  no-more-words′ n k = omega (arith, end-from′)
+
+  pub end-in′ : end ≤ length s
+  unfolding runEnd
+  end-in′ = let t = drop at s in omega (arith, taken (isOther 44) t, length-take (run (isOther 44) t) t, length-drop at s)
+
+  some-piece : pieces (drop at s) ≡ take (end - at) (drop at s) ∷ behind (drop end s)
+  unfolding runEnd long
+  some-piece =
+      let f : long (drop at s) ≡ end - at = omega arith in
+      let k : at + (end - at) ≡ end = omega (arith, end-from′) in
+      cut (drop at s) ∙ rw (f, drop-drop (end - at) at s, k)
+
+  last-piece : length s ≤ end → pieces (drop at s) ≡ take (end - at) (drop at s) ∷ []
+  unfolding behind
+  last-piece k = some-piece ∙ rw (drop-of-length-le s k)
+
+  next-piece : end < length s → pieces (drop at s) ≡ take (end - at) (drop at s) ∷ pieces (drop (end + 1) s)
+  unfolding behind
+  next-piece k = some-piece ∙ rw (add-one, drop-cons s end 0 k)
 
 -- n words are written: what becomes of the pieces behind them
 unfoldable pub onward : List ℕ → ℕ → List (List ℕ) → Outcome
@@ -28,14 +73,9 @@ stored : (ps : List (List ℕ)) (out : List ℕ) (n : ℕ)
     → onward out n ps ≡ record { says = cond (areNumbers ps) (Count (n + length ps)) Bad; slots = sets out n (numbersOf ps) }
 unfolding onward areNumbers numbersOf
 stored [] out n = let z : n + 0 ≡ n = omega arith in rw z
-stored (p ∷ ps) out n = go (isNumber p) (stored ps (set out n (valueOf 10 p)) (suc n))
-  where
-    go : (c : Bool)
-        → onward (set out n (valueOf 10 p)) (suc n) ps ≡ record { says = cond (areNumbers ps) (Count (suc n + length ps)) Bad; slots = sets (set out n (valueOf 10 p)) (suc n) (numbersOf ps) }
-        → cond c (onward (set out n (valueOf 10 p)) (suc n) ps) (record { says = Bad; slots = out })
-        ≡ record { says = cond (c && areNumbers ps) (Count (n + suc (length ps))) Bad; slots = sets out n (cond c (valueOf 10 p ∷ numbersOf ps) []) }
-    go true ih = ih ∙ rw (suc-add n (length ps), add-suc n (length ps))
-    go false ih = refl
+stored (p ∷ ps) out n =
+    by-test (λ (o : Outcome). o ≡ record { says = cond (areNumbers (p ∷ ps)) (Count (n + suc (length ps))) Bad; slots = sets out n (numbersOf (p ∷ ps)) }) (isNumber p)
+    (λ e. rw e (stored ps (set out n (valueOf 10 p)) (suc n) ∙ rw (suc-add n (length ps), add-suc n (length ps)))) (λ e. rw e)
 
 -- stores behind the end change nothing, and those behind the first leave it
 nowhere : (ws : List ℕ) (n : ℕ) → sets [] n ws ≡ []
@@ -59,19 +99,11 @@ start′ s o = let z : 0 + length (pieces s) ≡ length (pieces s) = omega arith
 -- what a piece is, told by the number that was read
 is-none : (p : List ℕ) → numberOf p ≡ Number.Bad → isNumber p ≡ false
 unfolding numberOf
-is-none p = go (isNumber p)
-  where
-    go : (c : Bool) → cond c (Number.Value (valueOf 10 p)) Number.Bad ≡ Number.Bad → c ≡ false
-    go true e = let z : _≡_ {A = ℕ} 0 1 = cc in absurd (omega arith)
-    go false e = refl
+is-none p = by-test (λ (r : Number). r ≡ Number.Bad → isNumber p ≡ false) (isNumber p) (λ q e. cc) (λ q e. q)
 
 is-some : (p : List ℕ) (w : ℕ) → numberOf p ≡ Number.Value w → (isNumber p ≡ true) × (valueOf 10 p ≡ w)
 unfolding numberOf
-is-some p w = go (isNumber p)
-  where
-    go : (c : Bool) → cond c (Number.Value (valueOf 10 p)) Number.Bad ≡ Number.Value w → (c ≡ true) × (valueOf 10 p ≡ w)
-    go true e = (refl, (cc))
-    go false e = let z : _≡_ {A = ℕ} 0 1 = cc in absurd (omega arith)
+is-some p w = by-test (λ (r : Number). r ≡ Number.Value w → (isNumber p ≡ true) × (valueOf 10 p ≡ w)) (isNumber p) (λ q e. (q, (cc))) (λ q e. ((cc), (cc)))
 
 -- As the loop meets them: the buffer, how many words were written, and the first piece behind them.
 module _ (s o : List ℕ) (at n : ℕ) (out : List ℕ) (inv : written o (pieces s) ≡ onward out n (pieces (drop at s))) (h : at ≤ length s)
@@ -83,13 +115,11 @@ module _ (s o : List ℕ) (at n : ℕ) (out : List ℕ) (inv : written o (pieces
   module _ (w : ℕ) (q : r ≡ Number.Value w) (out′ : List ℕ) (eo : out′ ≡ set out n w) (m : ℕ) (em : m ≡ n + 1) where
     pub counted′ : length s ≤ end → record { says = Count m; slots = out′ } ≡ written o (pieces s)
     unfolding onward
-    counted′ k =
-        sym (inv ∙ rw (last-piece s at end h e k, is-some _ w (sym er ∙ q) .0, is-some _ w (sym er ∙ q) .1, eo, em, add-one))
+    counted′ k = sym (inv ∙ rw (last-piece s at end h e k, is-some _ w (sym er ∙ q) .0, is-some _ w (sym er ∙ q) .1, eo, em, add-one))
 
     pub next′ : end < length s → (j : ℕ) → j ≡ end + 1 → written o (pieces s) ≡ onward out′ m (pieces (drop j s))
     unfolding onward
-    next′ k j ej =
-        inv ∙ rw (next-piece s at end h e k, is-some _ w (sym er ∙ q) .0, is-some _ w (sym er ∙ q) .1, eo, em, add-one n, ej)
+    next′ k j ej = inv ∙ rw (next-piece s at end h e k, is-some _ w (sym er ∙ q) .0, is-some _ w (sym er ∙ q) .1, eo, em, add-one n, ej)
 
 pub no-slot′ : (out : List ℕ) (n w : ℕ) → length out ≤ n → out ≡ set out n w
 no-slot′ out n w h = sym (set-out out n w h)

@@ -1,5 +1,5 @@
 -- The claims.
-use mathlib.Core.Path.{refl}
+use borrow.Author.Needs.{needs}
 use Rattle.kind.specs.Class.{isDigit}
 use Rattle.util.specs.Run.{run, runEnd, every}
 use Rattle.number.specs.Digit.{digitOf, valueOf}
@@ -8,19 +8,4 @@ use Rattle.request.specs.Words.{onFirst, pieces, piecesOf, areNumbers, n
 
 pub rows : Rows
 unfolding slashAt runEnd run numberOf isNumber every isDigit valueOf digitOf wordsIn written piecesOf isDash pieces onFirst areNumbers numbersOf
-rows =
-    record {
-      slash = refl;
-      no-slash = refl;
-      zeros = refl;
-      largest = refl;
-      too-large = refl;
-      signed = refl;
-      empty = refl;
-      words = refl;
-      too-many = refl;
-      dash = refl;
-      two-commas = refl;
-      last-comma = refl;
-      fault-behind = refl;
-    }
+rows = search needs

@@ -74,21 +74,14 @@ module _ (o : List ℕ) (at n : ℕ) (o′ : List ℕ) where
       → (at ≤ n) × (n ≤ length o′)
   in-room t true h q =
       let k : at + length t ≤ length o = leb-true (at + length t) (length o) h in
-      let p : Until n ≡ Until (at + length t) = ap (λ (w : Outcome). w .says) q in
-      let m : n ≡ at + length t = cc in
+      let m : n ≡ at + length t = cc (ap (λ (w : Outcome). w .says) q) in
       let l : length o′ ≡ length (take at o ++ t ++ drop (at + length t) o) = ap (λ (w : Outcome). length (w .slots)) q in
       omega (arith, simp (length-append, length-take, length-drop) at l)
-  in-room t false h q =
-      let p : Until n ≡ Bad = ap (λ (w : Outcome). w .says) q in
-      let z : _≡_ {A = ℕ} 0 1 = cc in
-      absurd (omega arith)
+  in-room t false h q = absurd (let z : _≡_ {A = ℕ} 0 1 = cc (ap (λ (w : Outcome). w .says) q) in omega arith)
 
   in-buffer : (x : Option (List ℕ)) → record { says = Until n; slots = o′ } ≡ put o at x → (at ≤ n) × (n ≤ length o′)
   unfolding put
-  in-buffer none q =
-      let p : Until n ≡ Bad = ap (λ (w : Outcome). w .says) q in
-      let z : _≡_ {A = ℕ} 0 1 = cc in
-      absurd (omega arith)
+  in-buffer none q = absurd (let z : _≡_ {A = ℕ} 0 1 = cc (ap (λ (w : Outcome). w .says) q) in omega arith)
   in-buffer (some t) q = in-room t _ refl q
 
   pub until : (s : List ℕ) (from to : ℕ) → record { says = Until n; slots = o′ } ≡ unhexed s from to o at → (at ≤ n) × (n ≤ length o′)

@@ -19,15 +19,12 @@ use Rattle.util.proofs.Runs.{run-from}
 use Rattle.token.specs.declared.Token.{Token}
 use Rattle.token.specs.declared.Token.the-variants.{HeaderMnemonicSeparator, HeaderQuerySuffix, ProgramMessageUnitSeparator, ProgramHeaderSeparator, ProgramDataSeparator}
 use Rattle.item.specs.{Word.mnemonic, Word.characterData, declared.Read.Read}
-use Rattle.forms.proofs.ItemProgress.{Behind, run-moves, common-behind, header-behind, character-behind}
+use Rattle.forms.proofs.ItemProgress.{Behind, run-moves, common-behind, header-behind, character-behind, numeric-behind, expression-behind, string-behind, hash-behind, From, newline-ends, newline-from, colon-from, question-from, comma-from}
 use Rattle.decimal.specs.Decimal.{numericData}
-use Rattle.forms.proofs.{DecimalProgress.numeric-behind, EnclosedProgress.expression-behind, EnclosedProgress.string-behind}
 use Rattle.enclosed.specs.{String.stringData, Expression.expressionData}
 use Rattle.hash.specs.Block.{hashData}
-use Rattle.forms.proofs.HashProgress.{hash-behind}
 use Rattle.separator.specs.Separator.{newlineTo, colonTo, questionTo, commaTo}
 use Rattle.separator.specs.declared.Pass.{Pass}
-use Rattle.forms.proofs.SeparatorProgress.{From, newline-ends, newline-from, colon-from, question-from, comma-from}
 use Rattle.tokenizer.specs.Step.{inHeader, inCommon, taken, refusal, ended, readAs, passed, endedBy, newlineBefore, colonBefore, questionBefore, commaBefore, wordAt, outside, byKind, step}
 use Rattle.tokenizer.specs.{declared.State.State, declared.Step.Step}
 

@@ -23,58 +23,43 @@ pub ruleset check-laws = (needs, told′)
 
 -- headers
 
-no-slot : (slots : List ℕ) (c : ℕ) (query : Bool) (kept : ℕ) → length slots ≡ 0
-    → record { code = codeOf NoSlotLeft; words = slots } ≡ resolvedIn slots (Resolved.Command c query kept)
+pub refused′ : (slots : List ℕ) (x : Resolved) (e : ErrorCode) → x ≡ Resolved.Refused e → (n : ℤ) → n ≡ codeOf e
+    → record { code = n; words = slots } ≡ resolvedIn slots x
 unfolding resolvedIn
-no-slot [] c query kept h = refl
-no-slot (y ∷ slots) c query kept h = absurd (omega (arith, h))
+refused′ slots x e q n en = rw (q, en)
 
-first-slot : (slots : List ℕ) (c : ℕ) (query : Bool) (kept : ℕ) → (length slots ≡ 0 → ⊥)
-    → record { code = pos 0; words = set slots 0 (headerWord c query kept) } ≡ resolvedIn slots (Resolved.Command c query kept)
+pub no-slot′ : (slots : List ℕ) (x : Resolved) (c : ℕ) (query : Bool) (kept : ℕ) → x ≡ Resolved.Command c query kept → length slots ≡ 0
+    → (n : ℤ) → n ≡ codeOf NoSlotLeft → record { code = n; words = slots } ≡ resolvedIn slots x
 unfolding resolvedIn
-first-slot [] c query kept h = absurd (h refl)
-first-slot (y ∷ slots) c query kept h = refl
+no-slot′ [] x c query kept q h n en = rw (q, en)
+no-slot′ (y ∷ slots) x c query kept q h n en = absurd (omega arith)
 
-module _ (slots : List ℕ) (x : Resolved) where
-  pub refused′ : (e : ErrorCode) → x ≡ Resolved.Refused e → (n : ℤ) → n ≡ codeOf e → record { code = n; words = slots } ≡ resolvedIn slots x
-  unfolding resolvedIn
-  refused′ e q n en = rw (q, en)
-
-  module _ (c : ℕ) (query : Bool) (kept : ℕ) (q : x ≡ Resolved.Command c query kept) where
-    pub no-slot′ : length slots ≡ 0 → (n : ℤ) → n ≡ codeOf NoSlotLeft → record { code = n; words = slots } ≡ resolvedIn slots x
-    no-slot′ h n en = rw (q, en) (no-slot slots c query kept h)
-
-    pub first-slot′ : (length slots ≡ 0 → ⊥) → (w : ℕ) → w ≡ headerWord c query kept → record { code = pos 0; words = set slots 0 w } ≡ resolvedIn slots x
-    first-slot′ h w ew = rw (q, ew) (first-slot slots c query kept h)
+pub first-slot′ : (slots : List ℕ) (x : Resolved) (c : ℕ) (query : Bool) (kept : ℕ) → x ≡ Resolved.Command c query kept
+    → (length slots ≡ 0 → ⊥) → (w : ℕ) → w ≡ headerWord c query kept → record { code = pos 0; words = set slots 0 w } ≡ resolvedIn slots x
+unfolding resolvedIn
+first-slot′ [] x c query kept q h w ew = absurd (h refl)
+first-slot′ (y ∷ slots) x c query kept q h w ew = rw (q, ew)
 
 pub ruleset header-laws = (needs, refused′, no-slot′, first-slot′)
 
 -- messages
 
-no-word : (units : List ℕ) (x : Walked) → length units ≡ 0 → record { code = codeOf NoSlotLeft; words = units } ≡ walkedIn units x
+pub no-word′ : (units : List ℕ) (x : Walked) → length units ≡ 0 → (n : ℤ) → n ≡ codeOf NoSlotLeft
+    → record { code = n; words = units } ≡ walkedIn units x
 unfolding walkedIn
-no-word [] x h = refl
-no-word (y ∷ units) x h = absurd (omega (arith, h))
+no-word′ [] x h n en = rw en
+no-word′ (y ∷ units) x h n en = absurd (omega arith)
 
-counted : (units : List ℕ) (n : ℕ) → (length units ≡ 0 → ⊥) → record { code = pos 0; words = set units 0 n } ≡ walkedIn units (Walked.Units n)
+pub counted′ : (units : List ℕ) (x : Walked) → (length units ≡ 0 → ⊥) → (n : ℕ) → x ≡ Walked.Units n
+    → record { code = pos 0; words = set units 0 n } ≡ walkedIn units x
 unfolding walkedIn
-counted [] n h = absurd (h refl)
-counted (y ∷ units) n h = refl
+counted′ [] x h n q = absurd (h refl)
+counted′ (y ∷ units) x h n q = rw q
 
-stopped : (units : List ℕ) (n : ℕ) (e : ErrorCode) → (length units ≡ 0 → ⊥) → record { code = codeOf e; words = set units 0 n } ≡ walkedIn units (Walked.Refused n e)
+pub stopped′ : (units : List ℕ) (x : Walked) → (length units ≡ 0 → ⊥) → (n : ℕ) (e : ErrorCode) → x ≡ Walked.Refused n e → (k : ℤ) → k ≡ codeOf e
+    → record { code = k; words = set units 0 n } ≡ walkedIn units x
 unfolding walkedIn
-stopped [] n e h = absurd (h refl)
-stopped (y ∷ units) n e h = refl
-
-module _ (units : List ℕ) (x : Walked) where
-  pub no-word′ : length units ≡ 0 → (n : ℤ) → n ≡ codeOf NoSlotLeft → record { code = n; words = units } ≡ walkedIn units x
-  no-word′ h n en = rw en (no-word units x h)
-
-  module _ (h : length units ≡ 0 → ⊥) (n : ℕ) where
-    pub counted′ : x ≡ Walked.Units n → record { code = pos 0; words = set units 0 n } ≡ walkedIn units x
-    counted′ q = rw q (counted units n h)
-
-    pub stopped′ : (e : ErrorCode) → x ≡ Walked.Refused n e → (k : ℤ) → k ≡ codeOf e → record { code = k; words = set units 0 n } ≡ walkedIn units x
-    stopped′ e q k ek = rw (q, ek) (stopped units n e h)
+stopped′ [] x h n e q k ek = absurd (h refl)
+stopped′ (y ∷ units) x h n e q k ek = rw (q, ek)
 
 pub ruleset message-laws = (needs, no-word′, counted′, stopped′)

@@ -20,21 +20,14 @@ resolving′ R slots after x n a e = record { says = x; answer = a; outcome = e 
 
 pub ruleset resolve-laws = (needs, resolving′)
 
-nowhere : {M : List Record → Ending → Type 0} (slots units : List ℕ) → length units ≡ 0 → Walking M slots units (codeOf NoSlotLeft) slots units
-nowhere slots [] h = no-word
-nowhere slots (y ∷ units) h = absurd (omega (arith, h))
+module _ (M : List Record → Ending → Type 0) (slots : List ℕ) where
+  pub no-word′ : (units : List ℕ) → length units ≡ 0 → (n : ℤ) → n ≡ codeOf NoSlotLeft → Walking M slots units n slots units
+  no-word′ [] h n en = rw en no-word
+  no-word′ (y ∷ units) h n en = absurd (omega arith)
 
-somewhere : {M : List Record → Ending → Type 0} {slots after : List ℕ} {x : Walked} (units later : List ℕ) (n : ℤ) → (length units ≡ 0 → ⊥)
-    → Walks M slots x after → record { code = n; words = later } ≡ walkedIn units x → Walking M slots units n after later
-somewhere [] later n h w e = absurd (h refl)
-somewhere (y ∷ units) later n h w e = walks w e
-
-module _ (M : List Record → Ending → Type 0) (slots units : List ℕ) where
-  pub no-word′ : length units ≡ 0 → (n : ℤ) → n ≡ codeOf NoSlotLeft → Walking M slots units n slots units
-  no-word′ h n en = rw en (nowhere slots units h)
-
-  pub walking′ : (length units ≡ 0 → ⊥) → (x : Walked) (after later : List ℕ) (n : ℤ) → Walks M slots x after → record { code = n; words = later } ≡ walkedIn units x
-      → Walking M slots units n after later
-  walking′ h x after later n w e = somewhere units later n h w e
+  pub walking′ : (units : List ℕ) → (length units ≡ 0 → ⊥) → (x : Walked) (after later : List ℕ) (n : ℤ) → Walks M slots x after
+      → record { code = n; words = later } ≡ walkedIn units x → Walking M slots units n after later
+  walking′ [] h x after later n w e = absurd (h refl)
+  walking′ (y ∷ units) h x after later n w e = walks w e
 
 pub ruleset walk-laws = (needs, no-word′, walking′)

@@ -7,6 +7,7 @@ use native.Mathlib.Nat.{lt-of-lt-of-le}
 use native.Mathlib.Omega.{arith}
 use lib.IntN.{ℤ}
 use lib.ListN.{length, getD, drop, set, length-set}
+use lib.Seq.{sets-eq}
 use lib.Dec.{lit<}
 use borrow.Author.Needs.{needs}
 use borrow.Author.Tests.{le-leb, lt-leb}
@@ -17,15 +18,7 @@ use Rattle.words.specs.Words.{saidOf, refusedOf, leftIn}
 
 eight : (l : List ℕ) (a b c d e f g h : ℕ) → 8 ≤ length l
     → set (set (set (set (set (set (set (set l 0 a) 1 b) 2 c) 3 d) 4 e) 5 f) 6 g) 7 h ≡ a ∷ b ∷ c ∷ d ∷ e ∷ f ∷ g ∷ h ∷ drop 8 l
-eight (x0 ∷ x1 ∷ x2 ∷ x3 ∷ x4 ∷ x5 ∷ x6 ∷ x7 ∷ l) a b c d e f g h q = refl
-eight (x0 ∷ x1 ∷ x2 ∷ x3 ∷ x4 ∷ x5 ∷ x6 ∷ []) a b c d e f g h q = absurd (omega (arith, q))
-eight (x0 ∷ x1 ∷ x2 ∷ x3 ∷ x4 ∷ x5 ∷ []) a b c d e f g h q = absurd (omega (arith, q))
-eight (x0 ∷ x1 ∷ x2 ∷ x3 ∷ x4 ∷ []) a b c d e f g h q = absurd (omega (arith, q))
-eight (x0 ∷ x1 ∷ x2 ∷ x3 ∷ []) a b c d e f g h q = absurd (omega (arith, q))
-eight (x0 ∷ x1 ∷ x2 ∷ []) a b c d e f g h q = absurd (omega (arith, q))
-eight (x0 ∷ x1 ∷ []) a b c d e f g h q = absurd (omega (arith, q))
-eight (x0 ∷ []) a b c d e f g h q = absurd (omega (arith, q))
-eight [] a b c d e f g h q = absurd (omega (arith, q))
+eight l a b c d e f g h q = sets-eq (a ∷ b ∷ c ∷ d ∷ e ∷ f ∷ g ∷ h ∷ []) l 0 q
 
 module _ (l : List ℕ) (place : ℕ) (second : Bool) (third : ℕ) (s : Said) where
   pub no-room′ : (n : ℤ) → length l < 8 → n ≡ codeOf NoSlotLeft → record { code = n; words = l } ≡ leftIn l place second third s

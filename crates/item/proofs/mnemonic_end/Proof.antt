@@ -2,7 +2,7 @@ use Prim.Native.Nat.{_-_, _≤_}
 use mathlib.Core.Path.{_≡_}
 use Rattle.kind.specs.Class.{inMnemonic}
 use Rattle.item.specs.Near.{runEndAmong}
-use Rattle.item.proofs.Among.{laws}
+use Rattle.item.proofs.Words.{among}
 use Rattle.item.proofs.mnemonic_end as f
 
 abbrev Inv-loop : f.Tie.InvT-loop
@@ -13,5 +13,5 @@ abbrev μ-loop : f.Tie.MeasureT-loop
 
 pub mnemonic-end-spec : {M : Type 1} → f.Statement.statement M
 mnemonic-end-spec =
-    f.Tie.close (f.Tie.spec Inv-loop μ-loop (λ c κs. search laws) (λ c. search laws) (λ c. search laws) (λ c κs. search laws)
-    (λ c. search laws) (λ c. search laws) (λ c. search laws) (λ c. search laws) (λ c. search laws))
+    f.Tie.close (f.Tie.spec Inv-loop μ-loop (λ c κs. search among) (λ c. search among) (λ c. search among) (λ c κs. search among)
+    (λ c. search among) (λ c. search among) (λ c. search among) (λ c. search among) (λ c. search among))

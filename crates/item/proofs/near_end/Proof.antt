@@ -1,4 +1,4 @@
-use Rattle.item.proofs.Among.{limits}
+use Rattle.item.proofs.Words.{limits}
 use Rattle.item.proofs.near_end as f
 
 pub near-end-spec : {M : Type 1} → f.Statement.statement M

@@ -3,7 +3,7 @@ mod lists;
 mod messages;
 mod tables;
 
-ghost use Prim.Native.Nat.{_≤_};
+ghost use Prim.Native.Nat.{_+_, _≤_};
 ghost use lib.ListN.{length};
 ghost use Rattle.io.specs.Counts.{Counts};
 use libc::STDIN_FILENO;
@@ -134,7 +134,18 @@ fn keep(part: &[u8], line: &mut [u8], held: usize) -> usize {
     if line.len() - held < part.len() {
         return line.len() + 1;
     }
-    report::copy(line, held, part)
+    copy(part, line, held);
+    held + part.len()
+}
+
+fn copy(from: &[u8], to: &mut [u8], at: usize)
+    requires { ⌜ at + length (now from) ≤ length (now to) ⌝ }
+{
+    let mut i = 0;
+    while i < from.len() {
+        to[at + i] = from[i];
+        i += 1;
+    }
 }
 
 // Answers the last line, where it lacks its newline, and writes out what waits.
@@ -350,8 +361,9 @@ fn put_behind(out: &mut [u8], sink: Sink, answer: &[u8]) -> Sink {
         return Sink { used: 0, ok: false };
     }
     if answer.len() <= out.len() - used {
+        copy(answer, out, used);
         return Sink {
-            used: report::copy(out, used, answer),
+            used: used + answer.len(),
             ok: true,
         };
     }
@@ -364,8 +376,9 @@ fn put_behind(out: &mut [u8], sink: Sink, answer: &[u8]) -> Sink {
             ok: io::write_all(STDOUT_FILENO, answer),
         };
     }
+    copy(answer, out, 0);
     Sink {
-        used: report::copy(out, 0, answer),
+        used: answer.len(),
         ok: true,
     }
 }

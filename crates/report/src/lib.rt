@@ -1,4 +1,4 @@
-// The answers to a name and a word, of the token step and of the message walk as text, and `copy`, which writes any text.
+// The answers to a name and a word, of the token step and of the message walk as text.
 mod mnemonics;
 mod tokens;
 mod units;
@@ -8,4 +8,3 @@ pub use mnemonics::names;
 pub use tokens::token_part;
 pub use units::Told;
 pub use units::walk_line;
-pub use write::copy;

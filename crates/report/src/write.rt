@@ -16,8 +16,8 @@ pub(crate) fn add(line: &mut Line, at: usize, text: &[u8]) -> usize
     copy(line, at, text)
 }
 
-// Writes a text to a line of any length, byte by byte.
-pub fn copy(line: &mut [u8], at: usize, text: &[u8]) -> usize
+// Copies a text, byte by byte.
+fn copy(line: &mut [u8], at: usize, text: &[u8]) -> usize
     requires { ⌜ at + length (now text) ≤ length (now line) ⌝ }
     ensures { λ r. ⌜ (Added (now (line .entry)) at (now (text .entry)) (now (line .exit)) r) × (r ≡ at + length (now (text .entry))) ⌝ }
 {

@@ -278,9 +278,9 @@ fn put_signed_after(out: &mut Out, sink: Sink, before: u8, n: i64) -> Sink {
 // A number, with a minus where it is below zero.
 fn put_signed(out: &mut Out, sink: Sink, n: i64) -> Sink {
     if n < 0 {
-        return put_after(out, sink, b'-', number::magnitude(n));
+        return put_after(out, sink, b'-', integer::magnitude(n));
     }
-    put_digits(out, sink, number::magnitude(n))
+    put_digits(out, sink, integer::magnitude(n))
 }
 
 // A word and a number.

@@ -21,7 +21,7 @@ use Rattle.forms.proofs.ItemAccepted.{part-shown, run-most}
 use Rattle.channel_spec.specs.Spec.{inSpec, bang, bangs, dimensionOf, specTo, specAt}
 use lib.IntN.{ℤ}
 use Rattle.error.specs.declared.ErrorCode.the-variants.{ExpressionError}
-use Rattle.number.specs.{Number.signedAt, declared.Signed.Signed}
+use Rattle.integer.specs.{Number.signedAt, declared.Signed.Signed}
 use Rattle.channel_spec.specs.Item.{refusal, bangEnd, itemBy, itemOf, itemAt}
 use Rattle.channel_spec.specs.declared.Item.the-variants as item
 use Rattle.channel_spec.specs.declared.Step.{Step}

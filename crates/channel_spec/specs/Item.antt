@@ -7,9 +7,9 @@ use lib.Dec.{leb}
 use lib.ListN.{length}
 use Rattle.error.specs.declared.ErrorCode.the-variants.{ExpressionError}
 use Rattle.util.specs.Run.{standsAt}
-use Rattle.number.specs.Number.{signedAt}
-use Rattle.number.specs.declared.Signed.{Signed}
-use Rattle.number.specs.declared.Signed.the-variants as signed
+use Rattle.integer.specs.Number.{signedAt}
+use Rattle.integer.specs.declared.Signed.{Signed}
+use Rattle.integer.specs.declared.Signed.the-variants as signed
 use Rattle.channel_spec.specs.declared.Item.the-variants as item
 use Rattle.channel_spec.specs.declared.Step.{Step}
 

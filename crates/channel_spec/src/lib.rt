@@ -3,7 +3,7 @@ ghost use mathlib.Core.Path.{_≡_};
 ghost use Rattle.channel_spec.specs.Spec.{inSpec, bang, specAt};
 ghost use Rattle.channel_spec.specs.Item.{refusal, itemOf, itemAt};
 use error::ErrorCode;
-use number::Signed;
+use integer::Signed;
 use token::View;
 
 // A channel spec: its part of the text, and its dimension.
@@ -88,7 +88,7 @@ pub fn next(spec: &[u8], place: usize) -> Step
 fn read_item(spec: &[u8], at: usize) -> Step
     ensures { λ r. ⌜ r ≡ itemOf (now (spec .entry)) at ⌝ }
 {
-    match number::read_signed(spec, at) {
+    match integer::read_signed(spec, at) {
         Signed::Value { value, end } => Step {
             item: Item::Value(value),
             place: end,

@@ -16,7 +16,7 @@ use Rattle.error.specs.declared.ErrorCode.{ErrorCode}
 use Rattle.error.specs.declared.ErrorCode.the-variants.{ExpressionError, InvalidExpression}
 use Rattle.kind.proofs.Tests.{and-left, and-right, less-or-not}
 use Rattle.util.specs.Run.{standsAt, every}
-use Rattle.number.specs.{Number.signedAt, declared.Signed.Signed}
+use Rattle.integer.specs.{Number.signedAt, declared.Signed.Signed}
 use Rattle.channel_spec.specs.Spec.{bang, bangs, dimensionOf}
 use Rattle.channel_spec.specs.Item.{refusal, bangEnd, itemBy, itemOf, itemAt}
 use Rattle.coordinate.specs.Coordinate.{integer, both, integers, written, pairOf, tripleOf, firstOf, coordinateOf}

@@ -16,10 +16,10 @@ use Rattle.kind.specs.Class.{isDigit, isSign}
 use Rattle.kind.proofs.Tests.{and-left, less-or-not, and-right, either}
 use Rattle.util.specs.Run.{run, runEnd, signEnd, standsAt, every}
 use Rattle.util.proofs.{Runs.run-again, Every.run-whole}
-use Rattle.number.specs.{Digit.isDigitOf, Digit.valueOf, declared.Signed.Signed, Number.signedAt}
-use Rattle.number.specs.Number.{digits, foundAt, unsignedOf, unsignedAt, signedOf}
-use Rattle.number.specs.declared.Unsigned.the-variants as unsigned
-use Rattle.number.proofs.Digits.{decimal}
+use Rattle.integer.specs.{Digit.isDigitOf, Digit.valueOf, declared.Signed.Signed, Number.signedAt}
+use Rattle.integer.specs.Number.{digits, foundAt, unsignedOf, unsignedAt, signedOf}
+use Rattle.integer.specs.declared.Unsigned.the-variants as unsigned
+use Rattle.integer.proofs.Digits.{decimal}
 use Rattle.decimal.specs.Decimal.{wholeEnd}
 use Rattle.forms.specs.DecimalForm.{Whole}
 use Rattle.coordinate.specs.Form.{signedBy, Decimal}

@@ -8,9 +8,9 @@ use lib.IntN.{ℤ}
 use lib.ListN.{length}
 use Rattle.error.specs.declared.ErrorCode.the-variants.{ExpressionError, InvalidExpression}
 use Rattle.kind.specs.Class.{is}
-use Rattle.number.specs.Number.{signedAt}
-use Rattle.number.specs.declared.Signed.{Signed}
-use Rattle.number.specs.declared.Signed.the-variants as signed
+use Rattle.integer.specs.Number.{signedAt}
+use Rattle.integer.specs.declared.Signed.{Signed}
+use Rattle.integer.specs.declared.Signed.the-variants as signed
 use Rattle.channel_spec.specs.Spec.{dimensionOf}
 use Rattle.channel_spec.specs.Item.{itemAt}
 use Rattle.channel_spec.specs.declared.Item.{Item}

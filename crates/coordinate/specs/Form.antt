@@ -8,7 +8,7 @@ use lib.IntN.{ℤ, pos, negℤ}
 use lib.Signed.{mag}
 use lib.ListN.{length}
 use Rattle.util.specs.Run.{standsAt}
-use Rattle.number.specs.Digit.{valueOf}
+use Rattle.integer.specs.Digit.{valueOf}
 use Rattle.forms.specs.DecimalForm.{Whole}
 use Rattle.channel_spec.specs.Item.{itemAt}
 use Rattle.channel_spec.specs.declared.Item.the-variants as item

@@ -8,9 +8,9 @@ use lib.Dec.{eqb}
 use lib.IntN.{ℤ}
 use Rattle.error.specs.declared.ErrorCode.the-variants.{ExpressionError, InvalidExpression}
 use Rattle.util.specs.Run.{standsAt}
-use Rattle.number.specs.Number.{signedAt}
-use Rattle.number.specs.declared.Signed.{Signed}
-use Rattle.number.specs.declared.Signed.the-variants as signed
+use Rattle.integer.specs.Number.{signedAt}
+use Rattle.integer.specs.declared.Signed.{Signed}
+use Rattle.integer.specs.declared.Signed.the-variants as signed
 use Rattle.channel_spec.specs.Spec.{dimensionOf}
 use Rattle.coordinate.specs.declared.Coordinate.{Coordinate}
 use Rattle.coordinate.specs.declared.Coordinate.the-variants as coordinate

@@ -7,7 +7,7 @@ ghost use Rattle.channel_spec.specs.Spec.{bangs};
 ghost use Rattle.coordinate.specs.Coordinate.{coordinateOf, written, pairOf, tripleOf};
 ghost use Rattle.coordinate.specs.Reading.{noCoordinate, joinedAt, lastOf};
 use error::ErrorCode;
-use number::Signed;
+use integer::Signed;
 
 pub enum Coordinate {
     Value(i64),
@@ -40,7 +40,7 @@ enum Last {
 pub fn read_coordinate(spec: &[u8]) -> Coordinate
     ensures { λ r. ⌜ r ≡ coordinateOf (now (spec .entry)) ⌝ }
 {
-    match number::read_signed(spec, 0) {
+    match integer::read_signed(spec, 0) {
         Signed::Value { value, end } => {
             if has_bang(spec, end) {
                 Coordinate::Refused(ErrorCode::InvalidExpression)
@@ -114,7 +114,7 @@ fn read_pair_from(spec: &[u8], at: usize) -> Pair
 fn read_joined(spec: &[u8], at: usize) -> Joined
     ensures { λ r. ⌜ r ≡ joinedAt (now (spec .entry)) at ⌝ }
 {
-    match number::read_signed(spec, at) {
+    match integer::read_signed(spec, at) {
         Signed::Value { value, end } => {
             if spec.len() <= end {
                 return Joined::Nothing;
@@ -136,7 +136,7 @@ fn read_joined(spec: &[u8], at: usize) -> Joined
 fn read_last(spec: &[u8], at: usize) -> Last
     ensures { λ r. ⌜ r ≡ lastOf (written (drop at (now (spec .entry)))) ⌝ }
 {
-    match number::read_signed(spec, at) {
+    match integer::read_signed(spec, at) {
         Signed::Value { value, end } => {
             if end < spec.len() {
                 return Last::Nothing;

@@ -12,7 +12,7 @@ use Rattle.error.specs.declared.ErrorCode.the-variants.{SuffixNotAllowed, Inval
 use Rattle.kind.specs.Class.{isDigit}
 use Rattle.kind.proofs.Tests.{and-left, and-right}
 use Rattle.util.specs.Run.{every}
-use Rattle.number.specs.Digit.{valueOf}
+use Rattle.integer.specs.Digit.{valueOf}
 use Rattle.token.specs.{Token.viewIn, View.viewOf, declared.View.View, declared.Token.the-variants.ArbitraryBlockData}
 use Rattle.item.specs.Follow.{token, followed}
 use Rattle.forms.specs.{ItemForm.Follows, ItemForm.Ended, HashForm.BlockForm}

@@ -8,8 +8,8 @@ use native.Mathlib.Numerals.{add-one}
 use lib.ListN.{length, length-append}
 use Rattle.kind.specs.Class.{isDigit}
 use Rattle.forms.specs.IntegerClaims.{Claims}
-use Rattle.number.specs.Digit.{digitOf, valueOf}
-use Rattle.number.proofs.Digits.{decimal}
+use Rattle.integer.specs.Digit.{digitOf, valueOf}
+use Rattle.integer.proofs.Digits.{decimal}
 
 one-up : (x p v base d : ℕ) → x * (p * base) + (v * base + d) ≡ (x * p + v) * base + d
 one-up x p v base d = rw (add-mul (x * p) v base, mul-assoc x p base) (omega arith)

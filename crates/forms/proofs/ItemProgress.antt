@@ -22,9 +22,9 @@ use Rattle.decimal.specs.Decimal.{wholeEnd, hasWhole, fractionEnd, hasFraction,
 use Rattle.decimal.specs.declared.Place.{Place}
 use Rattle.decimal.specs.declared.Place.the-variants.{At, Nowhere}
 use Rattle.decimal.proofs.Decimals.{fraction-from}
-use Rattle.number.specs.{Digit.valueOf, declared.Radix.Radix, declared.Unsigned.Unsigned}
-use Rattle.number.specs.Number.{baseOf, digits, foundAt, unsignedOf, unsignedAt}
-use Rattle.number.specs.declared.Radix.the-variants.{Binary, Octal, Hexadecimal}
+use Rattle.integer.specs.{Digit.valueOf, declared.Radix.Radix, declared.Unsigned.Unsigned}
+use Rattle.integer.specs.Number.{baseOf, digits, foundAt, unsignedOf, unsignedAt}
+use Rattle.integer.specs.declared.Radix.the-variants.{Binary, Octal, Hexadecimal}
 use Rattle.hash.specs.Nondecimal.{nondecimalOf, nondecimalData}
 use Rattle.hash.specs.Block.{payload, definite, indefinite, arbitraryData, hashBy, hashData}
 use Rattle.enclosed.specs.String.{inString, stringEnd, closed, stringData}

@@ -8,7 +8,7 @@ use mathlib.Core.Bool.{true, false}
 use lib.ListN.{length, drop}
 use Rattle.kind.specs.Class.{is, isDigit}
 use Rattle.util.specs.Run.{every}
-use Rattle.number.specs.Digit.{valueOf}
+use Rattle.integer.specs.Digit.{valueOf}
 use Rattle.token.specs.View.{viewOf}
 use Rattle.token.specs.declared.View.{View}
 use Rattle.token.specs.declared.Token.the-variants.{ArbitraryBlockData}

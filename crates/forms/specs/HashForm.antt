@@ -6,7 +6,7 @@ use mathlib.Core.Bool.{true}
 use lib.ListN.{length, take, drop}
 use Rattle.kind.specs.Class.{isDigit}
 use Rattle.util.specs.Run.{every}
-use Rattle.number.specs.Digit.{valueOf}
+use Rattle.integer.specs.Digit.{valueOf}
 use Rattle.token.specs.declared.View.{View}
 
 -- IEEE 488.2 7.7.6.2: n digits from a place on, which say how long the view behind them is.

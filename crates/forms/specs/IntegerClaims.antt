@@ -3,7 +3,7 @@ use Prim.Native.Nat.{ℕ, _+_, _*_}
 use mathlib.Core.Path.{_≡_}
 use mathlib.Core.List.{List, [], _∷_, _++_}
 use Rattle.kind.specs.Class.{isDigit}
-use Rattle.number.specs.Digit.{digitOf, isDigitOf, valueOf}
+use Rattle.integer.specs.Digit.{digitOf, isDigitOf, valueOf}
 
 pub record Claims : Type 0 where
   -- a further digit multiplies the value by the base, and adds its own

@@ -12,7 +12,7 @@ use borrow.Author.Tests.{le-leb, lt-leb, lt-ltb, le-ltb, eq-eqb, ne-eqb, leb-tru
 use Rattle.error.specs.declared.ErrorCode.the-variants.{NumericDataError, SuffixNotAllowed, BlockDataError, InvalidBlockData}
 use Rattle.kind.specs.Class.{isDigit}
 use Rattle.kind.proofs.Tests.{and-left}
-use Rattle.number.specs.declared.Radix.the-variants.{Binary, Octal, Hexadecimal}
+use Rattle.integer.specs.declared.Radix.the-variants.{Binary, Octal, Hexadecimal}
 use Rattle.token.specs.{View.viewOf, declared.Token.the-variants.ArbitraryBlockData}
 use Rattle.item.specs.Follow.{token, refused, followed}
 use Rattle.item.specs.declared.Read.{Read}

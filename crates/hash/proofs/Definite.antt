@@ -15,10 +15,10 @@ use Rattle.kind.specs.Class.{isDigit}
 use Rattle.kind.proofs.Tests.{by-test, less-or-not}
 use Rattle.util.specs.Run.{run, every}
 use Rattle.util.proofs.Every.{every-weaker, every-run, run-every}
-use Rattle.number.specs.{Digit.isDigitOf, Digit.valueOf, declared.Radix.the-variants.Decimal, declared.Unsigned.Unsigned}
-use Rattle.number.specs.Number.{digits, foundAt, unsignedOf, unsignedAt}
-use Rattle.number.specs.declared.Unsigned.the-variants.{Value, NoDigit, TooLarge}
-use Rattle.number.proofs.{Digits.decimal, Values.taken}
+use Rattle.integer.specs.{Digit.isDigitOf, Digit.valueOf, declared.Radix.the-variants.Decimal, declared.Unsigned.Unsigned}
+use Rattle.integer.specs.Number.{digits, foundAt, unsignedOf, unsignedAt}
+use Rattle.integer.specs.declared.Unsigned.the-variants.{Value, NoDigit, TooLarge}
+use Rattle.integer.proofs.{Digits.decimal, Values.taken}
 use Rattle.item.specs.{Follow.refused, declared.Read.Read}
 use Rattle.hash.specs.Block.{payload, definite}
 

@@ -6,8 +6,8 @@ use lib.ListN.{length}
 use borrow.Author.Needs.{needs}
 use borrow.Author.Tests.{le-leb, lt-leb}
 use Rattle.error.specs.declared.ErrorCode.the-variants.{NumericDataError, InvalidCharacterInNumber, SuffixNotAllowed, DataOutOfRange}
-use Rattle.number.specs.{Number.unsignedAt, declared.Radix.Radix, declared.Unsigned.Unsigned}
-use Rattle.number.specs.declared.Unsigned.the-variants.{Value, NoDigit, TooLarge}
+use Rattle.integer.specs.{Number.unsignedAt, declared.Radix.Radix, declared.Unsigned.Unsigned}
+use Rattle.integer.specs.declared.Unsigned.the-variants.{Value, NoDigit, TooLarge}
 use Rattle.token.specs.declared.Token.the-variants.{NonDecimalNumericProgramData}
 use Rattle.item.specs.{Follow.refused, Follow.followed, declared.Read.Read}
 use Rattle.hash.specs.Nondecimal.{nondecimalOf, nondecimalData}

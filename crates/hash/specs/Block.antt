@@ -8,8 +8,8 @@ use lib.ListN.{length, getD, take, drop}
 use Rattle.error.specs.declared.ErrorCode.the-variants.{NumericDataError, SuffixNotAllowed, BlockDataError, InvalidBlockData}
 use Rattle.kind.specs.Class.{is, isDigit}
 use Rattle.util.specs.Run.{every}
-use Rattle.number.specs.Digit.{valueOf}
-use Rattle.number.specs.declared.Radix.the-variants.{Binary, Octal, Hexadecimal}
+use Rattle.integer.specs.Digit.{valueOf}
+use Rattle.integer.specs.declared.Radix.the-variants.{Binary, Octal, Hexadecimal}
 use Rattle.token.specs.View.{viewOf}
 use Rattle.token.specs.declared.Token.the-variants.{ArbitraryBlockData}
 use Rattle.item.specs.Follow.{token, refused, followed}

@@ -5,10 +5,10 @@ use mathlib.Core.Bool.{cond}
 use lib.Dec.{leb}
 use lib.ListN.{length}
 use Rattle.error.specs.declared.ErrorCode.the-variants.{NumericDataError, InvalidCharacterInNumber, SuffixNotAllowed, DataOutOfRange}
-use Rattle.number.specs.Number.{unsignedAt}
-use Rattle.number.specs.declared.Radix.{Radix}
-use Rattle.number.specs.declared.Unsigned.{Unsigned}
-use Rattle.number.specs.declared.Unsigned.the-variants.{Value, NoDigit, TooLarge}
+use Rattle.integer.specs.Number.{unsignedAt}
+use Rattle.integer.specs.declared.Radix.{Radix}
+use Rattle.integer.specs.declared.Unsigned.{Unsigned}
+use Rattle.integer.specs.declared.Unsigned.the-variants.{Value, NoDigit, TooLarge}
 use Rattle.token.specs.declared.Token.the-variants.{NonDecimalNumericProgramData}
 use Rattle.item.specs.Follow.{refused, followed}
 use Rattle.item.specs.declared.Read.{Read}

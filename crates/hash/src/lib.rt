@@ -4,9 +4,9 @@ ghost use mathlib.Core.Path.{_≡_};
 ghost use Rattle.hash.specs.Nondecimal.{nondecimalData};
 ghost use Rattle.hash.specs.Block.{payload, definite, indefinite, arbitraryData, hashData};
 use error::ErrorCode;
+use integer::Radix;
+use integer::Unsigned;
 use item::Read;
-use number::Radix;
-use number::Unsigned;
 use token::Token;
 use token::View;
 
@@ -33,7 +33,7 @@ pub fn read_hash_data(s: &[u8], at: usize) -> Read
 pub fn read_nondecimal_data(s: &[u8], at: usize, radix: Radix) -> Read
     ensures { λ r. ⌜ r ≡ nondecimalData radix (now (s .entry)) at ⌝ }
 {
-    match number::read_unsigned(s, at, radix) {
+    match integer::read_unsigned(s, at, radix) {
         Unsigned::Value { value, end } => item::skip_ws_to_separator(
             s,
             end,
@@ -76,7 +76,7 @@ fn read_definite(s: &[u8], at: usize, digits: usize) -> Read
         return Read::Refused(ErrorCode::InvalidBlockData);
     }
     let start = at + digits;
-    match number::read_unsigned(&s[..start], at, Radix::Decimal) {
+    match integer::read_unsigned(&s[..start], at, Radix::Decimal) {
         Unsigned::Value { value, end } => {
             if end != start {
                 Read::Refused(ErrorCode::InvalidBlockData)

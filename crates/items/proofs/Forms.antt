@@ -15,8 +15,8 @@ use Rattle.kind.specs.Kind.{kindOf}
 use Rattle.kind.proofs.Bytes.{agrees}
 use Rattle.kind.proofs.Tests.{by-test, either, or-left, or-right, and-right, clash, less-or-not}
 use Rattle.util.specs.Run.{runEnd, standsAt, every}
-use Rattle.number.specs.{Digit.valueOf, Number.unsignedAt, declared.Unsigned.Unsigned}
-use Rattle.number.specs.declared.Radix.the-variants.{Binary, Octal, Hexadecimal}
+use Rattle.integer.specs.{Digit.valueOf, Number.unsignedAt, declared.Unsigned.Unsigned}
+use Rattle.integer.specs.declared.Radix.the-variants.{Binary, Octal, Hexadecimal}
 use Rattle.token.specs.{declared.View.View, declared.Token.Token}
 use Rattle.token.specs.declared.Token.the-variants.{HeaderMnemonicSeparator, HeaderQuerySuffix, ProgramDataSeparator}
 use Rattle.item.specs.{Follow.endsData, Follow.followed, Word.starEnd, Word.mnemonic, Word.characterData, declared.Read.Read}

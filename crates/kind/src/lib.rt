@@ -1,10 +1,10 @@
 // The kind of a byte, and the classes of characters that the readers ask for.
-mod table;
+mod kinds;
 
 ghost use mathlib.Core.Path.{_≡_};
 ghost use Rattle.kind.specs.Class.{isWhiteSpace, isCapital, isSmall, isDigit, isLetter, inMnemonic, isSign};
 ghost use Rattle.kind.specs.Kind.{kindOf};
-use table::KINDS;
+use kinds::KINDS;
 
 // The kinds by name; the table is written in these.
 // White space is the first two, letters the last two, and what may stand in a mnemonic the last four.

@@ -16,7 +16,7 @@ use Rattle.kind.specs.Class.{isDigit, isSign}
 use Rattle.kind.proofs.Tests.{and-left, and-both, by-test, less-or-not}
 use Rattle.util.specs.{Run.standsAt, Run.every, Walk.after}
 use Rattle.util.proofs.{Walks.arrives, Every.every-join}
-use Rattle.number.specs.{Digit.digitOf, Digit.valueOf, Number.digits, Number.signedAt, declared.Signed.Signed}
+use Rattle.integer.specs.{Digit.digitOf, Digit.valueOf, Number.digits, Number.signedAt, declared.Signed.Signed}
 use Rattle.forms.proofs.IntegerClaims as number
 use Rattle.forms.proofs.ItemSeams.{here-inside, here-stands, here-next}
 use Rattle.channel_spec.specs.Spec.{bang, bangs, dimensionOf}

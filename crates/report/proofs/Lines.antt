@@ -13,7 +13,7 @@ use Rattle.io.specs.Counts.{Counts}
 use Rattle.error.specs.{Code.codeOf, declared.ErrorCode.ErrorCode}
 use Rattle.kind.specs.Text.{ascii}
 use Rattle.record.specs.declared.Record.{Record}
-use Rattle.report.specs.{Added.Added, Number.decimal, Number.signed, declared.units.Told.Told}
+use Rattle.report.specs.{Added.Added, Number.decimal, Number.signed, declared.unit_text.Told.Told}
 use Rattle.report.specs.Units.{pairText, formText, unitText, stopText, totalText, lineText}
 use Rattle.report.proofs.{Adds.join, Adds.join3, Steps.counted′, Steps.ends′}
 

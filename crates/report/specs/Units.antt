@@ -7,8 +7,8 @@ use Rattle.error.specs.declared.ErrorCode.{ErrorCode}
 use Rattle.kind.specs.Text.{ascii}
 use Rattle.record.specs.declared.Record.{Record}
 use Rattle.report.specs.Number.{decimal, signed}
-use Rattle.report.specs.declared.units.Told.{Told}
-use Rattle.report.specs.declared.units.Told.the-variants as told
+use Rattle.report.specs.declared.unit_text.Told.{Told}
+use Rattle.report.specs.declared.unit_text.Told.the-variants as told
 
 -- two numbers with a blank between them
 unfoldable pub pairText : ℕ → ℕ → List ℕ

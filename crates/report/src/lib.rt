@@ -1,10 +1,10 @@
 // The answers to a name and a word, of the token step and of the message walk as text.
 mod mnemonics;
-mod tokens;
-mod units;
+mod token_text;
+mod unit_text;
 mod write;
 
 pub use mnemonics::names;
-pub use tokens::token_part;
-pub use units::Told;
-pub use units::walk_line;
+pub use token_text::token_part;
+pub use unit_text::Told;
+pub use unit_text::walk_line;

@@ -46,7 +46,7 @@ pub(crate) fn add_signed(line: &mut Line, at: usize, n: i16) -> usize
 {
     if n < 0 {
         let shown = add(line, at, b"-");
-        return add_number(line, shown, number::magnitude(n as i64));
+        return add_number(line, shown, integer::magnitude(n as i64));
     }
-    add_number(line, at, number::magnitude(n as i64))
+    add_number(line, at, integer::magnitude(n as i64))
 }

@@ -3,7 +3,7 @@ use borrow.Author.Needs.{needs}
 use Rattle.kind.specs.Class.{isWhiteSpace, isDigit}
 use Rattle.util.specs.Run.{run, runEnd}
 use Rattle.request.specs.{Claims.Claims, Field.fieldAt, Hex.arePairs, Hex.bytesOf, Hex.isDash, Hex.textOf}
-use Rattle.number.specs.Digit.{digitOf, isDigitOf}
+use Rattle.integer.specs.Digit.{digitOf, isDigitOf}
 use Rattle.request.proofs.Texts.{until}
 
 pub claims : Claims

@@ -15,12 +15,12 @@ use Rattle.kind.specs.Class.{isDigit}
 use Rattle.kind.proofs.Tests.{less-or-not, clash, by-test}
 use Rattle.util.specs.Run.{run, every}
 use Rattle.util.proofs.Every.{every-run, run-every}
-use Rattle.number.specs.{Digit.isDigitOf, Digit.valueOf, declared.Radix.the-variants.Decimal, declared.Unsigned.Unsigned}
-use Rattle.number.specs.Number.{digits, foundAt, unsignedOf, unsignedAt}
-use Rattle.number.proofs.{Digits.decimal, Values.taken}
+use Rattle.integer.specs.{Digit.isDigitOf, Digit.valueOf, declared.Radix.the-variants.Decimal, declared.Unsigned.Unsigned}
+use Rattle.integer.specs.Number.{digits, foundAt, unsignedOf, unsignedAt}
+use Rattle.integer.proofs.{Digits.decimal, Values.taken}
 use Rattle.request.specs.Number.{isNumber, numberOf, numberIn}
-use Rattle.request.specs.declared.table.Number.{Number}
-use Rattle.request.specs.declared.table.Number.the-variants.{Value, Bad}
+use Rattle.request.specs.declared.table_text.Number.{Number}
+use Rattle.request.specs.declared.table_text.Number.the-variants.{Value, Bad}
 
 -- a number whose digits go to the end of a text of n characters
 abbrev whole : ℕ → Unsigned → Number

@@ -15,7 +15,7 @@ use borrow.Author.Tests.{eq-eqb, ne-eqb, lt-ltb, le-ltb, ltb-true}
 use mir.Syntax.{w8}
 use mir.Val.{Fits}
 use Rattle.kind.proofs.Tests.{and-left, and-right}
-use Rattle.number.specs.Digit.{digitOf, isDigitOf}
+use Rattle.integer.specs.Digit.{digitOf, isDigitOf}
 use Rattle.request.specs.Hex.{isHex, arePairs, bytesOf, isDash}
 use Rattle.request.specs.{Unhex.Outcome, Unhex.written, declared.Text.the-variants.Until}
 

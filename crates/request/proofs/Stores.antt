@@ -13,10 +13,10 @@ use borrow.Author.Needs.{needs}
 use borrow.Author.Tests.{le-leb, lt-leb}
 use Rattle.kind.proofs.Tests.{by-test}
 use Rattle.util.specs.Run.{run, runEnd}
-use Rattle.number.{specs.Digit.valueOf, proofs.Values.taken}
-use Rattle.request.specs.{Hex.isDash, Slash.isOther, Number.isNumber, Number.numberOf, declared.table.Number.Number}
+use Rattle.integer.{specs.Digit.valueOf, proofs.Values.taken}
+use Rattle.request.specs.{Hex.isDash, Slash.isOther, Number.isNumber, Number.numberOf, declared.table_text.Number.Number}
 use Rattle.request.specs.Words.{Outcome, onFirst, pieces, piecesOf, areNumbers, numbersOf, over, written, wordsIn}
-use Rattle.request.specs.declared.table.Words.the-variants.{Count, Bad}
+use Rattle.request.specs.declared.table_text.Words.the-variants.{Count, Bad}
 use Rattle.request.proofs.Numbers.{part}
 
 -- how far the first piece goes

@@ -2,7 +2,7 @@
 use borrow.Author.Needs.{needs}
 use Rattle.kind.specs.Class.{isDigit}
 use Rattle.util.specs.Run.{run, runEnd, every}
-use Rattle.number.specs.Digit.{digitOf, valueOf}
+use Rattle.integer.specs.Digit.{digitOf, valueOf}
 use Rattle.request.specs.{Hex.isDash, TableClaims.Rows, Number.isNumber, Number.numberOf, Slash.slashAt}
 use Rattle.request.specs.Words.{onFirst, pieces, piecesOf, areNumbers, numbersOf, written, wordsIn}
 

@@ -4,7 +4,7 @@ use mathlib.Core.List.{List, [], _∷_}
 use mathlib.Core.Bool.{Bool, false, true, cond, _&&_}
 use mathlib.Core.Option.{Option, none, some}
 use Rattle.kind.specs.Class.{is}
-use Rattle.number.specs.Digit.{digitOf, isDigitOf}
+use Rattle.integer.specs.Digit.{digitOf, isDigitOf}
 
 -- a hex digit
 abbrev pub isHex : ℕ → Bool

@@ -7,9 +7,9 @@ use lib.ListN.{length}
 use lib.Seq.{slice}
 use Rattle.kind.specs.Class.{isDigit}
 use Rattle.util.specs.Run.{every}
-use Rattle.number.specs.Digit.{valueOf}
-use Rattle.request.specs.declared.table.Number.{Number}
-use Rattle.request.specs.declared.table.Number.the-variants.{Value, Bad}
+use Rattle.integer.specs.Digit.{valueOf}
+use Rattle.request.specs.declared.table_text.Number.{Number}
+use Rattle.request.specs.declared.table_text.Number.the-variants.{Value, Bad}
 
 -- digits and nothing else, one at least, that are worth less than 2^64
 unfoldable pub isNumber : List ℕ → Bool

@@ -6,8 +6,8 @@ use Rattle.kind.specs.Text.{ascii}
 use Rattle.request.specs.Number.{numberOf}
 use Rattle.request.specs.Slash.{slashAt}
 use Rattle.request.specs.Words.{wordsIn}
-use Rattle.request.specs.declared.table.Number.the-variants as number
-use Rattle.request.specs.declared.table.Words.the-variants.{Count, Bad}
+use Rattle.request.specs.declared.table_text.Number.the-variants as number
+use Rattle.request.specs.declared.table_text.Words.the-variants.{Count, Bad}
 
 pub record Rows : Type 0 where
   pub slash : slashAt (ascii "F 1,2/41 x") 2 8 ≡ 5

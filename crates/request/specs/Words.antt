@@ -6,11 +6,11 @@ use lib.Dec.{leb}
 use lib.ListN.{length, take, drop}
 use lib.Seq.{slice}
 use Rattle.kind.specs.Class.{is}
-use Rattle.number.specs.Digit.{valueOf}
+use Rattle.integer.specs.Digit.{valueOf}
 use Rattle.request.specs.Hex.{isDash}
 use Rattle.request.specs.Number.{isNumber}
-use Rattle.request.specs.declared.table.Words.{Words}
-use Rattle.request.specs.declared.table.Words.the-variants.{Count, Bad}
+use Rattle.request.specs.declared.table_text.Words.{Words}
+use Rattle.request.specs.declared.table_text.Words.the-variants.{Count, Bad}
 
 -- a character in front of the first of some pieces
 unfoldable pub onFirst : ℕ → List (List ℕ) → List (List ℕ)

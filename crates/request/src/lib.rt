@@ -9,15 +9,15 @@ ghost use Rattle.request.specs.Field.{isInk, fieldAt};
 ghost use Rattle.request.specs.Hex.{arePairs, bytesOf, isDash};
 ghost use Rattle.request.specs.Unhex.{Outcome, unhexed, written};
 
-mod table;
+mod table_text;
 
+use integer::digit_value;
 use kind::is_white_space;
-use number::digit_value;
-pub use table::Number;
-pub use table::Words;
-pub use table::read_number;
-pub use table::read_words;
-pub use table::slash;
+pub use table_text::Number;
+pub use table_text::Words;
+pub use table_text::read_number;
+pub use table_text::read_words;
+pub use table_text::slash;
 use util::skip_ws;
 
 // A part of a line, from its start up to its end.

@@ -4,8 +4,8 @@ use Rattle.kind.specs.Class.{isWhiteSpace, isCapital, isSmall, isDigit, isLette
 use Rattle.kind.specs.Kind.{kindOf}
 use Rattle.util.specs.Run.{run, runEnd, signEnd, standsAt, every}
 use Rattle.mnemonic.specs.Mnemonic.{matches, compares, numericSuffixStart, lastEnd, sameNumericSuffix, pairs, folded, eitherCase, notSmall, mayLeaveOut}
-use Rattle.number.specs.Digit.{digitOf, isDigitOf, valueOf}
-use Rattle.number.specs.Number.{digits, foundAt, unsignedOf, unsignedAt, signedOf, signedAt}
+use Rattle.integer.specs.Digit.{digitOf, isDigitOf, valueOf}
+use Rattle.integer.specs.Number.{digits, foundAt, unsignedOf, unsignedAt, signedOf, signedAt}
 use Rattle.token.specs.View.{partOf}
 use Rattle.item.specs.{Follow.endsData, Follow.followed, Word.starEnd, Word.mnemonic}
 use Rattle.decimal.specs.Decimal.{wholeEnd, hasWhole, fractionEnd, mantissa, beginsExponent, exponent, withExponent, number, inSuffix, beginsSuffix, suffixed, suffixData, numericTo, numericData}

@@ -31,7 +31,7 @@ pub fn read_unsigned_coordinate(spec: &[u8]) -> UnsignedCoordinate
             if is_negative(value) {
                 return UnsignedCoordinate::Refused(ErrorCode::IllegalParameterValue);
             }
-            UnsignedCoordinate::Value(number::magnitude(value))
+            UnsignedCoordinate::Value(integer::magnitude(value))
         }
         Coordinate::Refused(e) => UnsignedCoordinate::Refused(e),
     }
@@ -49,7 +49,7 @@ pub fn read_unsigned_pair(spec: &[u8]) -> UnsignedPair
             if is_negative(second) {
                 return UnsignedPair::Refused(ErrorCode::IllegalParameterValue);
             }
-            UnsignedPair::Values(number::magnitude(first), number::magnitude(second))
+            UnsignedPair::Values(integer::magnitude(first), integer::magnitude(second))
         }
         Pair::Refused(e) => UnsignedPair::Refused(e),
     }
@@ -71,9 +71,9 @@ pub fn read_unsigned_triple(spec: &[u8]) -> UnsignedTriple
                 return UnsignedTriple::Refused(ErrorCode::IllegalParameterValue);
             }
             UnsignedTriple::Values(
-                number::magnitude(first),
-                number::magnitude(second),
-                number::magnitude(third),
+                integer::magnitude(first),
+                integer::magnitude(second),
+                integer::magnitude(third),
             )
         }
         Triple::Refused(e) => UnsignedTriple::Refused(e),

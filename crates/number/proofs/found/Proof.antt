@@ -1,5 +1,0 @@
-use Rattle.number.proofs.Laws.{step}
-use Rattle.number.proofs.found as f
-
-pub found-spec : {M : Type 1} → f.Statement.statement M
-found-spec = f.Tie.close (f.Tie.spec (λ c. search step) (λ c. search step))

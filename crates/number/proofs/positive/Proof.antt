@@ -1,5 +1,0 @@
-use Rattle.number.proofs.Signs.{laws}
-use Rattle.number.proofs.positive as f
-
-pub positive-spec : {M : Type 1} → f.Statement.statement M
-positive-spec = f.Tie.close (f.Tie.spec (λ c. search laws) (λ c. search laws) (λ c. search laws))

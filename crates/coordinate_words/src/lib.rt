@@ -11,7 +11,7 @@ use unsigned_coordinate::UnsignedPair;
 use unsigned_coordinate::UnsignedTriple;
 
 // The coordinates of a spec, as many as there are words: one, two or three.
-pub fn coordinates(spec: &[u8], words: &mut [i64]) -> i16
+pub fn coordinates(spec: &[u8], words: &mut [i64]) -> i32
     ensures { λ r. ⌜ record { code = r; words = now (words .exit) } ≡ coordinatesIn (now (spec .entry)) (now (words .entry)) ⌝ }
 {
     if words.len() == 1 {
@@ -48,7 +48,7 @@ pub fn coordinates(spec: &[u8], words: &mut [i64]) -> i16
 }
 
 // As `coordinates`, and refuses a negative coordinate with -224.
-pub fn unsigned_coordinates(spec: &[u8], words: &mut [u64]) -> i16
+pub fn unsigned_coordinates(spec: &[u8], words: &mut [u64]) -> i32
     ensures { λ r. ⌜ record { code = r; words = now (words .exit) } ≡ unsignedIn (now (spec .entry)) (now (words .entry)) ⌝ }
 {
     if words.len() == 1 {

@@ -38,7 +38,7 @@ pub enum ErrorCode {
 
 impl ErrorCode {
     // The number that a refusal is reported by.
-    pub fn get_code(self) -> i16
+    pub fn get_code(self) -> i32
         ensures { λ r. ⌜ r ≡ codeOf self ⌝ }
     {
         match self {

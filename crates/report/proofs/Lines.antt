@@ -6,7 +6,7 @@ use mathlib.Core.Bool.{Bool, true, false}
 use lib.IntN.{ℤ}
 use lib.ListN.{take, drop}
 use borrow.Author.Needs.{needs}
-use mir.Syntax.{w16}
+use mir.Syntax.{w32}
 use mir.Val.{SFits, toZ, ofZ}
 use mir.ValLaws.{toZ-ofZ}
 use Rattle.io.specs.Counts.{Counts}
@@ -42,12 +42,12 @@ module _ (l o p q z : List ℕ) (a b c r : ℕ) where
       join l q z 0 c r (pairText n (u .command) ++ formText (u .query) ++ pairText (u .items) (u .branch)) (ascii "\n")
       (join3 l o p q 0 a b c (pairText n (u .command)) (formText (u .query)) (pairText (u .items) (u .branch)) x y v) w
 
-  pub stop′ : (n : ℕ) (m : ℤ) (e : ErrorCode) → m ≡ codeOf e → SFits w16 m → Added l 0 (decimal n) o a → Added o a (ascii " refused ") p b
-      → Added p b (signed (toZ w16 (ofZ w16 m))) q c → Added q c (ascii "\n") z r → Added l 0 (stopText n e) z r
+  pub stop′ : (n : ℕ) (m : ℤ) (e : ErrorCode) → m ≡ codeOf e → SFits w32 m → Added l 0 (decimal n) o a → Added o a (ascii " refused ") p b
+      → Added p b (signed (toZ w32 (ofZ w32 m))) q c → Added q c (ascii "\n") z r → Added l 0 (stopText n e) z r
   unfolding stopText
   stop′ n m e k f x y v w =
       rw k at (join l q z 0 c r (decimal n ++ ascii " refused " ++ signed m) (ascii "\n")
-      (join3 l o p q 0 a b c (decimal n) (ascii " refused ") (signed m) x y (rw (toZ-ofZ w16 m f) at v)) w)
+      (join3 l o p q 0 a b c (decimal n) (ascii " refused ") (signed m) x y (rw (toZ-ofZ w32 m f) at v)) w)
 
 pub total′ : (l o p q : List ℕ) (a b r n : ℕ) → Added l 0 (ascii "end ") o a → Added o a (decimal n) p b → Added p b (ascii "\n") q r
     → Added l 0 (totalText n) q r

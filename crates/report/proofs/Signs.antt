@@ -9,7 +9,7 @@ use lib.IntN.{ℤ, pos, negsuc, natAbs}
 use lib.Signed.{ltZ}
 use borrow.Author.Needs.{needs}
 use borrow.Author.Tests.{ltb-true}
-use mir.Syntax.{w16, w64}
+use mir.Syntax.{w32, w64}
 use mir.Val.{SFits, toZ, ofZ}
 use mir.ValLaws.{toZ-ofZ}
 use Rattle.report.specs.{Added.Added, Number.decimal, Number.signed}
@@ -26,21 +26,21 @@ unfolding signed
 plus (pos n) e = refl
 plus (negsuc n) e = absurd (let z : _≡_ {A = ℕ} 0 1 = cc in omega arith)
 
-module _ (n : ℤ) (f : SFits w16 n) where
-  here : toZ w16 (ofZ w16 n) ≡ n
-  here = toZ-ofZ w16 n f
+module _ (n : ℤ) (f : SFits w32 n) where
+  here : toZ w32 (ofZ w32 n) ≡ n
+  here = toZ-ofZ w32 n f
 
-  pub wider′ : SFits w64 (toZ w16 (ofZ w16 n))
+  pub wider′ : SFits w64 (toZ w32 (ofZ w32 n))
   wider′ = rw here (record { sfits = omega arith })
 
-  module _ (l o : List ℕ) (at r k : ℕ) (e : k ≡ natAbs (toZ w64 (ofZ w64 (toZ w16 (ofZ w16 n))))) where
+  module _ (l o : List ℕ) (at r k : ℕ) (e : k ≡ natAbs (toZ w64 (ofZ w64 (toZ w32 (ofZ w32 n))))) where
     size : k ≡ natAbs n
-    size = e ∙ ap natAbs (toZ-ofZ w64 (toZ w16 (ofZ w16 n)) wider′ ∙ here)
+    size = e ∙ ap natAbs (toZ-ofZ w64 (toZ w32 (ofZ w32 n)) wider′ ∙ here)
 
-    pub minus′ : (o′ : List ℕ) (m : ℕ) → ltZ (toZ w16 (ofZ w16 n)) (pos 0) ≡ true → Added l at (code "-" ∷ []) o m → Added o m (decimal k) o′ r → Added l at (signed n) o′ r
+    pub minus′ : (o′ : List ℕ) (m : ℕ) → ltZ (toZ w32 (ofZ w32 n)) (pos 0) ≡ true → Added l at (code "-" ∷ []) o m → Added o m (decimal k) o′ r → Added l at (signed n) o′ r
     minus′ o′ m q a b = rw (← minus n (rw here at q), ← size) (join l o o′ at m r (code "-" ∷ []) (decimal k) a b)
 
-    pub plus′ : ltZ (toZ w16 (ofZ w16 n)) (pos 0) ≡ false → Added l at (decimal k) o r → Added l at (signed n) o r
+    pub plus′ : ltZ (toZ w32 (ofZ w32 n)) (pos 0) ≡ false → Added l at (decimal k) o r → Added l at (signed n) o r
     plus′ q a = rw (← plus n (rw here at q), ← size) a
 
 pub ruleset laws = (needs, wider′, minus′, plus′)

@@ -6,7 +6,7 @@ use native.Mathlib.Omega.{arith}
 use lib.IntN.{ℤ}
 use lib.ListN.{length, take, drop, length-take}
 use borrow.Author.Needs.{needs}
-use mir.Syntax.{w16}
+use mir.Syntax.{w32}
 use mir.Val.{SFits, toZ, ofZ}
 use mir.ValLaws.{toZ-ofZ}
 use Rattle.error.specs.{Code.codeOf, declared.ErrorCode.ErrorCode}
@@ -29,11 +29,11 @@ module _ (l o p q : List ℕ) (a b r : ℕ) where
   unfolding endText
   end′ n = join3 l o p q 0 a b r (ascii "end") (placeText n) (ascii "\n")
 
-  pub refused′ : (n : ℤ) (e : ErrorCode) → n ≡ codeOf e → SFits w16 n → Added l 0 (ascii "refused ") o a → Added o a (signed (toZ w16 (ofZ w16 n))) p b
+  pub refused′ : (n : ℤ) (e : ErrorCode) → n ≡ codeOf e → SFits w32 n → Added l 0 (ascii "refused ") o a → Added o a (signed (toZ w32 (ofZ w32 n))) p b
       → Added p b (ascii "\n") q r → Added l 0 (refusedText e) q r
   unfolding refusedText
   refused′ n e k f x y z =
-      rw k at (join3 l o p q 0 a b r (ascii "refused ") (signed n) (ascii "\n") x (rw (toZ-ofZ w16 n f) at y) z)
+      rw k at (join3 l o p q 0 a b r (ascii "refused ") (signed n) (ascii "\n") x (rw (toZ-ofZ w32 n f) at y) z)
 
 pub ruleset laws = (needs, taken′, end′, refused′)
 

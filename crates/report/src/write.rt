@@ -40,7 +40,7 @@ pub(crate) fn add_number(line: &mut Line, at: usize, n: u64) -> usize
 }
 
 // A number in decimal, with a minus in front where it is below zero.
-pub(crate) fn add_signed(line: &mut Line, at: usize, n: i16) -> usize
+pub(crate) fn add_signed(line: &mut Line, at: usize, n: i32) -> usize
     requires { ⌜ at + 21 ≤ 128 ⌝ }
     ensures { λ r. ⌜ (Added (now (line .entry)) at (signed n) (now (line .exit)) r) × (r ≤ at + 21) ⌝ }
 {

@@ -9,7 +9,7 @@ use table::Checked;
 use tree::Resolved;
 
 // 0 for an accepted table, or the number of its fault.
-pub fn checked_code(checked: Checked) -> i16
+pub fn checked_code(checked: Checked) -> i32
     ensures { λ r. ⌜ r ≡ checkedCode checked ⌝ }
 {
     match checked {
@@ -19,7 +19,7 @@ pub fn checked_code(checked: Checked) -> i16
 }
 
 // The word of a header goes to the first slot: that of a unit without items.
-pub fn put_resolved(slots: &mut [u64], resolved: Resolved) -> i16
+pub fn put_resolved(slots: &mut [u64], resolved: Resolved) -> i32
     ensures { λ r. ⌜ record { code = r; words = now (slots .exit) } ≡ resolvedIn (now (slots .entry)) resolved ⌝ }
 {
     match resolved {
@@ -44,7 +44,7 @@ pub fn put_resolved(slots: &mut [u64], resolved: Resolved) -> i16
 }
 
 // The number of units goes to the first word.
-pub fn put_walked(units: &mut [u64], walked: Walked) -> i16
+pub fn put_walked(units: &mut [u64], walked: Walked) -> i32
     ensures { λ r. ⌜ record { code = r; words = now (units .exit) } ≡ walkedIn (now (units .entry)) walked ⌝ }
 {
     if units.len() == 0 {

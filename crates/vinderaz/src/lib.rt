@@ -1,6 +1,8 @@
 // The face for C: what the readers answer, as numbers and words in lent slices. include/vinderaz.h says the same to a C programmer.
 ghost use mathlib.Core.Path.{_≡_};
-ghost use Rattle.mnemonic.specs.Mnemonic.{matches};
+ghost use lib.IntN.{pos};
+ghost use Rattle.mnemonic.specs.Mnemonic.{matches, compares};
+ghost use Rattle.record.specs.Word.{bit};
 ghost use Rattle.tree.specs.Alone.{Resolves, ResolvesAlone};
 ghost use Rattle.message.specs.Message.{Message, CheckedMessage};
 ghost use Rattle.words.specs.Outcome.{Outcome};
@@ -11,18 +13,34 @@ use error::ErrorCode;
 
 // 0 for an accepted table, or its fault.
 #[no_mangle]
-pub extern "C" fn vinderaz_check(nodes: &[u64], names: &[u8]) -> i16
+pub extern "C" fn vinderaz_check(nodes: &[u64], names: &[u8]) -> i32
     ensures { λ r. ⌜ Checks (now (nodes .entry)) (now (names .entry)) r ⌝ }
 {
     unit_words::checked_code(table::check(nodes, names))
 }
 
-// Whether the word spells the name.
+// Whether the word spells the name: 1, or else 0.
 #[no_mangle]
-pub extern "C" fn vinderaz_mnemonic_match(name: &[u8], word: &[u8]) -> bool
-    ensures { λ r. ⌜ r ≡ matches (now (name .entry)) (now (word .entry)) ⌝ }
+pub extern "C" fn vinderaz_mnemonic_match(name: &[u8], word: &[u8]) -> i32
+    ensures { λ r. ⌜ r ≡ pos (bit (matches (now (name .entry)) (now (word .entry)))) ⌝ }
 {
-    mnemonic::mnemonic_match(name, word)
+    if mnemonic::mnemonic_match(name, word) {
+        1
+    } else {
+        0
+    }
+}
+
+// Whether the mnemonic is the name in its long or its short form, digits and all: 1, or else 0.
+#[no_mangle]
+pub extern "C" fn vinderaz_mnemonic_compare(name: &[u8], mnemonic: &[u8]) -> i32
+    ensures { λ r. ⌜ r ≡ pos (bit (compares (now (name .entry)) (now (mnemonic .entry)))) ⌝ }
+{
+    if mnemonic::mnemonic_compare(name, mnemonic) {
+        1
+    } else {
+        0
+    }
 }
 
 // Resolves one header; its word goes to the first slot.
@@ -33,7 +51,7 @@ pub extern "C" fn vinderaz_resolve(
     start: usize,
     text: &[u8],
     slots: &mut [u64],
-) -> i16
+) -> i32
     ensures { λ r. ⌜ Resolving (ResolvesAlone (now (nodes .entry)) (now (names .entry)) start (now (text .entry))) (now (slots .entry)) r (now (slots .exit)) ⌝ }
 {
     let resolved = tree::resolve(nodes, names, start, text);
@@ -48,7 +66,7 @@ pub extern "C" fn vinderaz_resolve_accepted(
     start: usize,
     text: &[u8],
     slots: &mut [u64],
-) -> i16
+) -> i32
     ensures { λ r. ⌜ Resolving (Resolves (now (nodes .entry)) (now (names .entry)) start (now (text .entry))) (now (slots .entry)) r (now (slots .exit)) ⌝ }
 {
     let resolved = tree::resolve_accepted(nodes, names, start, text);
@@ -64,7 +82,7 @@ pub extern "C" fn vinderaz_walk(
     text: &[u8],
     slots: &mut [u64],
     units: &mut [u64],
-) -> i16
+) -> i32
     ensures { λ r. ⌜ Walking (CheckedMessage (now (nodes .entry)) (now (names .entry)) start (now (text .entry))) (now (slots .entry)) (now (units .entry)) r (now (slots .exit)) (now (units .exit)) ⌝ }
 {
     if units.len() == 0 {
@@ -83,7 +101,7 @@ pub extern "C" fn vinderaz_walk_accepted(
     text: &[u8],
     slots: &mut [u64],
     units: &mut [u64],
-) -> i16
+) -> i32
     ensures { λ r. ⌜ Walking (Message (now (nodes .entry)) (now (names .entry)) start (now (text .entry))) (now (slots .entry)) (now (units .entry)) r (now (slots .exit)) (now (units .exit)) ⌝ }
 {
     if units.len() == 0 {
@@ -95,7 +113,7 @@ pub extern "C" fn vinderaz_walk_accepted(
 
 // The next token of a message or of data alone.
 #[no_mangle]
-pub extern "C" fn vinderaz_token(text: &[u8], words: &mut [u64]) -> i16
+pub extern "C" fn vinderaz_token(text: &[u8], words: &mut [u64]) -> i32
     ensures { λ r. ⌜ record { code = r; words = now (words .exit) } ≡ tokenStep (now (text .entry)) (now (words .entry)) ⌝ }
 {
     if words.len() < words::STEP_WORDS {
@@ -107,7 +125,7 @@ pub extern "C" fn vinderaz_token(text: &[u8], words: &mut [u64]) -> i16
 
 // Opens a channel list.
 #[no_mangle]
-pub extern "C" fn vinderaz_channel_list(text: &[u8], words: &mut [u64]) -> i16
+pub extern "C" fn vinderaz_channel_list(text: &[u8], words: &mut [u64]) -> i32
     ensures { λ r. ⌜ record { code = r; words = now (words .exit) } ≡ openStep (now (text .entry)) (now (words .entry)) ⌝ }
 {
     if words.len() < words::STEP_WORDS {
@@ -118,7 +136,7 @@ pub extern "C" fn vinderaz_channel_list(text: &[u8], words: &mut [u64]) -> i16
 
 // The next item of a channel list.
 #[no_mangle]
-pub extern "C" fn vinderaz_channel(text: &[u8], words: &mut [u64]) -> i16
+pub extern "C" fn vinderaz_channel(text: &[u8], words: &mut [u64]) -> i32
     ensures { λ r. ⌜ record { code = r; words = now (words .exit) } ≡ channelStep (now (text .entry)) (now (words .entry)) ⌝ }
 {
     if words.len() < words::STEP_WORDS {
@@ -130,7 +148,7 @@ pub extern "C" fn vinderaz_channel(text: &[u8], words: &mut [u64]) -> i16
 
 // The next item of a numeric list.
 #[no_mangle]
-pub extern "C" fn vinderaz_numeric(text: &[u8], words: &mut [u64]) -> i16
+pub extern "C" fn vinderaz_numeric(text: &[u8], words: &mut [u64]) -> i32
     ensures { λ r. ⌜ record { code = r; words = now (words .exit) } ≡ numericStep (now (text .entry)) (now (words .entry)) ⌝ }
 {
     if words.len() < words::STEP_WORDS {
@@ -142,7 +160,7 @@ pub extern "C" fn vinderaz_numeric(text: &[u8], words: &mut [u64]) -> i16
 
 // The coordinates of a channel spec, as many as there are words.
 #[no_mangle]
-pub extern "C" fn vinderaz_coordinates(spec: &[u8], words: &mut [i64]) -> i16
+pub extern "C" fn vinderaz_coordinates(spec: &[u8], words: &mut [i64]) -> i32
     ensures { λ r. ⌜ record { code = r; words = now (words .exit) } ≡ coordinatesIn (now (spec .entry)) (now (words .entry)) ⌝ }
 {
     coordinate_words::coordinates(spec, words)
@@ -150,7 +168,7 @@ pub extern "C" fn vinderaz_coordinates(spec: &[u8], words: &mut [i64]) -> i16
 
 // The same, none a negative.
 #[no_mangle]
-pub extern "C" fn vinderaz_unsigned_coordinates(spec: &[u8], words: &mut [u64]) -> i16
+pub extern "C" fn vinderaz_unsigned_coordinates(spec: &[u8], words: &mut [u64]) -> i32
     ensures { λ r. ⌜ record { code = r; words = now (words .exit) } ≡ unsignedIn (now (spec .entry)) (now (words .entry)) ⌝ }
 {
     coordinate_words::unsigned_coordinates(spec, words)

@@ -17,7 +17,7 @@ pub const STEP_WORDS: usize = 8;
 
 // What a step says: its number, the dimension, the kind and the views.
 struct Said {
-    code: i16,
+    code: i32,
     dimension: u64,
     kind: u64,
     start: u64,
@@ -68,7 +68,7 @@ fn word(words: &[u64], at: usize) -> u64
 }
 
 // Leaves the answer of a token step.
-pub fn put_token(words: &mut [u64], step: tokenizer::Step) -> i16
+pub fn put_token(words: &mut [u64], step: tokenizer::Step) -> i32
     ensures { λ r. ⌜ record { code = r; words = now (words .exit) } ≡ tokenLeft (now (words .entry)) step ⌝ }
 {
     let answer = step.answer;
@@ -83,7 +83,7 @@ pub fn put_token(words: &mut [u64], step: tokenizer::Step) -> i16
 }
 
 // Leaves what a text of so many bytes opens as: the front of a channel list, or that it is none.
-pub fn put_opened(words: &mut [u64], length: usize, opened: Opened) -> i16
+pub fn put_opened(words: &mut [u64], length: usize, opened: Opened) -> i32
     ensures { λ r. ⌜ record { code = r; words = now (words .exit) } ≡ openedLeft (now (words .entry)) length opened ⌝ }
 {
     match opened {
@@ -99,7 +99,7 @@ pub fn put_opened(words: &mut [u64], length: usize, opened: Opened) -> i16
 }
 
 // Leaves the answer of a step of a channel list.
-pub fn put_channel(words: &mut [u64], step: channel_list::Step) -> i16
+pub fn put_channel(words: &mut [u64], step: channel_list::Step) -> i32
     ensures { λ r. ⌜ record { code = r; words = now (words .exit) } ≡ channelLeft (now (words .entry)) step ⌝ }
 {
     let answer = step.answer;
@@ -109,7 +109,7 @@ pub fn put_channel(words: &mut [u64], step: channel_list::Step) -> i16
 }
 
 // Leaves the answer of a step of a numeric list.
-pub fn put_numeric(words: &mut [u64], step: numeric_list::Step) -> i16
+pub fn put_numeric(words: &mut [u64], step: numeric_list::Step) -> i32
     ensures { λ r. ⌜ record { code = r; words = now (words .exit) } ≡ numericLeft (now (words .entry)) step ⌝ }
 {
     let answer = step.answer;
@@ -118,7 +118,7 @@ pub fn put_numeric(words: &mut [u64], step: numeric_list::Step) -> i16
 }
 
 // The first eight words, where there are as many, and the number of the answer.
-fn put(words: &mut [u64], place: usize, second: bool, third: u64, said: Said) -> i16
+fn put(words: &mut [u64], place: usize, second: bool, third: u64, said: Said) -> i32
     ensures { λ r. ⌜ record { code = r; words = now (words .exit) } ≡ leftIn (now (words .entry)) place second third said ⌝ }
 {
     if words.len() < STEP_WORDS {

@@ -1,5 +1,6 @@
-use borrow.Author.Needs.{needs}
+use Rattle.vinderaz.proofs.Tree.{match-laws}
 use Rattle.vinderaz.proofs.vinderaz_mnemonic_match as f
 
 pub vinderaz-mnemonic-match-spec : {M : Type 1} → f.Statement.statement M
-vinderaz-mnemonic-match-spec = f.Tie.close (f.Tie.spec (λ c κs. search needs) (λ c. search needs))
+vinderaz-mnemonic-match-spec =
+    f.Tie.close (f.Tie.spec (λ c κs. search match-laws) (λ c. search match-laws) (λ c. search match-laws))

@@ -13,7 +13,7 @@
 
    The functions are reentrant: they have no state of their own, take no memory and call nothing but, on some processors, the compiler's
    own helpers (memcpy, memset, a product of 64 bits). Interrupts and threads may call them at the same time on arrays of their own.
-@STACK@*/
+*/
 #ifndef VINDERAZ_H
 #define VINDERAZ_H
 
@@ -101,6 +101,26 @@ static inline const char *vinderaz_text(int32_t number) {
     default: return NULL;
     }
 }
+
+/* ---- Stack: the most that a function takes in bytes, on x86-64, aarch64, Cortex-M4 and Cortex-M0, at -O3 and -Os, with all that it calls but the
+   C library. It is counted from the machine code, and no library is made that takes more; the file STACK beside each has its own numbers, which
+   are lower. A table in which default branches lie in each other costs those that check it more for each of these after the first. */
+enum {
+    VINDERAZ_STACK_CHECK = 704,
+    VINDERAZ_STACK_RESOLVE = 1920,
+    VINDERAZ_STACK_WALK = 2264,
+    VINDERAZ_STACK_DEFAULT = 200, /* check, resolve and walk: for each default branch that lies in another */
+    VINDERAZ_STACK_RESOLVE_ACCEPTED = 1904,
+    VINDERAZ_STACK_WALK_ACCEPTED = 2240,
+    VINDERAZ_STACK_MNEMONIC_MATCH = 368,
+    VINDERAZ_STACK_MNEMONIC_COMPARE = 80,
+    VINDERAZ_STACK_TOKEN = 1392,
+    VINDERAZ_STACK_CHANNEL_LIST = 40,
+    VINDERAZ_STACK_CHANNEL = 456,
+    VINDERAZ_STACK_NUMERIC = 172,
+    VINDERAZ_STACK_COORDINATES = 496,
+    VINDERAZ_STACK_UNSIGNED_COORDINATES = 488
+};
 
 /* ---- The command table
 

@@ -19,7 +19,7 @@ struct row {
     const uint8_t *names, *text;
     size_t node_count, names_length, length;
     /* the answer: the refusal or 0, units, tokens or items, and a sum over what was read */
-    int16_t code;
+    int32_t code;
     uint64_t units, count, sum;
 };
 
@@ -59,9 +59,9 @@ static void data(struct row *r) {
 }
 
 /* The coordinates of a spec, and their sum. */
-static inline int16_t coordinates(const uint8_t *spec, size_t length, size_t dimension, bool is_signed, uint64_t *sum) {
+static inline int32_t coordinates(const uint8_t *spec, size_t length, size_t dimension, bool is_signed, uint64_t *sum) {
     uint64_t at[3];
-    int16_t code = is_signed ? vinderaz_coordinates(spec, length, (int64_t *)at, dimension)
+    int32_t code = is_signed ? vinderaz_coordinates(spec, length, (int64_t *)at, dimension)
                              : vinderaz_unsigned_coordinates(spec, length, at, dimension);
     if (!code) {
         *sum += at[0];
@@ -73,9 +73,9 @@ static inline int16_t coordinates(const uint8_t *spec, size_t length, size_t dim
     return code;
 }
 
-static inline int16_t channels(const uint8_t *text, size_t length, bool is_signed, uint64_t *count, uint64_t *sum) {
+static inline int32_t channels(const uint8_t *text, size_t length, bool is_signed, uint64_t *count, uint64_t *sum) {
     uint64_t w[VINDERAZ_WORDS];
-    int16_t code = vinderaz_channel_list(text, length, w, VINDERAZ_WORDS);
+    int32_t code = vinderaz_channel_list(text, length, w, VINDERAZ_WORDS);
     while (!code && !(code = vinderaz_channel(text, length, w, VINDERAZ_WORDS)) && w[VINDERAZ_KIND] != VINDERAZ_END) {
         ++*count;
         *sum += w[VINDERAZ_KIND];

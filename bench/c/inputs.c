@@ -62,7 +62,7 @@ static void table_begin(void) {
 }
 
 static uint64_t name_of(const char *name) {
-    uint64_t field = VINDERAZ_NAME(names_length, strlen(name));
+    uint64_t field = vinderaz_name(names_length, strlen(name));
     strcpy(names + names_length, name);
     names_length += strlen(name);
     return field;
@@ -104,9 +104,9 @@ static uint64_t new_name(size_t i, int numbered) {
 /* A root with leaves. */
 static void wide(size_t n, int numbered) {
     table_begin();
-    nodes[node_count++] = VINDERAZ_BRANCH(0, 1, n - 1);
+    nodes[node_count++] = vinderaz_branch(0, 1, n - 1);
     for (size_t i = 1; i < n; i++)
-        nodes[node_count++] = VINDERAZ_LEAF(new_name(i, numbered), i);
+        nodes[node_count++] = vinderaz_leaf(new_name(i, numbered), i);
     new_name(n, numbered);
 }
 
@@ -116,7 +116,7 @@ static void tree(size_t n, int numbered) {
     for (size_t i = 0; i < n; i++) {
         size_t first = 8 * i + 1, count = first >= n ? 0 : n - first < 8 ? n - first : 8;
         uint64_t name = i ? new_name(i, numbered) : 0;
-        nodes[node_count++] = count ? VINDERAZ_BRANCH(name, first, count) : VINDERAZ_LEAF(name, i);
+        nodes[node_count++] = count ? vinderaz_branch(name, first, count) : vinderaz_leaf(name, i);
     }
     nodes[1] |= VINDERAZ_DEFAULT;
     new_name(n, numbered);
@@ -125,10 +125,10 @@ static void tree(size_t n, int numbered) {
 /* A root, default branches one in the other, and a leaf. */
 static void chain(size_t depth) {
     table_begin();
-    nodes[node_count++] = VINDERAZ_BRANCH(0, 1, 1);
+    nodes[node_count++] = vinderaz_branch(0, 1, 1);
     for (size_t i = 1; i <= depth; i++)
-        nodes[node_count++] = VINDERAZ_DEFAULT | VINDERAZ_BRANCH(new_name(i, 0), i + 1, 1);
-    nodes[node_count++] = VINDERAZ_LEAF(new_name(depth + 1, 0), 1);
+        nodes[node_count++] = VINDERAZ_DEFAULT | vinderaz_branch(new_name(i, 0), i + 1, 1);
+    nodes[node_count++] = vinderaz_leaf(new_name(depth + 1, 0), 1);
 }
 
 /* The words that lead to a node of the tree. */
@@ -192,17 +192,17 @@ static void tables(void) {
 /* The table of the program commandcheck. */
 static void card(void) {
     table_begin();
-    nodes[node_count++] = VINDERAZ_BRANCH(0, 1, 4);
-    nodes[node_count++] = VINDERAZ_LEAF(name_of("*IDN"), 1);
-    nodes[node_count++] = VINDERAZ_BRANCH(name_of("ROUTe"), 5, 2);
-    nodes[node_count++] = VINDERAZ_DEFAULT | VINDERAZ_BRANCH(name_of("SENSe"), 7, 2);
-    nodes[node_count++] = VINDERAZ_LEAF(name_of("ABORt"), 2);
-    nodes[node_count++] = VINDERAZ_LEAF(name_of("CLOSe"), 3);
-    nodes[node_count++] = VINDERAZ_LEAF(name_of("OPEN"), 4);
-    nodes[node_count++] = VINDERAZ_BRANCH(name_of("VOLTage"), 9, 2);
-    nodes[node_count++] = VINDERAZ_LEAF(name_of("CURRent"), 5);
-    nodes[node_count++] = VINDERAZ_DEFAULT | VINDERAZ_LEAF(name_of("DC"), 6);
-    nodes[node_count++] = VINDERAZ_LEAF(name_of("AC2"), 7);
+    nodes[node_count++] = vinderaz_branch(0, 1, 4);
+    nodes[node_count++] = vinderaz_leaf(name_of("*IDN"), 1);
+    nodes[node_count++] = vinderaz_branch(name_of("ROUTe"), 5, 2);
+    nodes[node_count++] = VINDERAZ_DEFAULT | vinderaz_branch(name_of("SENSe"), 7, 2);
+    nodes[node_count++] = vinderaz_leaf(name_of("ABORt"), 2);
+    nodes[node_count++] = vinderaz_leaf(name_of("CLOSe"), 3);
+    nodes[node_count++] = vinderaz_leaf(name_of("OPEN"), 4);
+    nodes[node_count++] = vinderaz_branch(name_of("VOLTage"), 9, 2);
+    nodes[node_count++] = vinderaz_leaf(name_of("CURRent"), 5);
+    nodes[node_count++] = VINDERAZ_DEFAULT | vinderaz_leaf(name_of("DC"), 6);
+    nodes[node_count++] = vinderaz_leaf(name_of("AC2"), 7);
     table_end("card");
 }
 

@@ -77,7 +77,7 @@ typedef char vinderaz_words_are_aligned_to_8[sizeof(struct vinderaz_aligned) == 
     X(CHILD_BLOCKS, 3, "Child blocks that do not follow each other to the end") \
     X(NODE_NAME, 4, "A name that is none") \
     X(TWO_DEFAULTS, 5, "Two default children in a branch") \
-    X(SHARED_SPELLING, 6, "Two near nodes that one word spells") \
+    X(SHARED_SPELLING, 6, "Two near nodes that one mnemonic spells") \
     X(START_IS_NO_BRANCH, 7, "The start is no branch") \
     X(NO_SLOT_LEFT, 8, "No slot left") \
     X(MESSAGE_TOO_LONG, 9, "More than 65,535 bytes")
@@ -260,8 +260,9 @@ int32_t vinderaz_channel(const uint8_t *text, uint64_t text_length, uint64_t *wo
 int32_t vinderaz_numeric(const uint8_t *text, uint64_t text_length, uint64_t *words, uint64_t word_count);
 
 /* The coordinates of a channel spec, the view of an item of a channel list: as many as there are words, one, two or three; for
-   another number of words the answer is 8. One: -171 where the dimension is another, -170 where it is no integer. Two or three: -170 where
-   the spec is not that many integers of 64 bits joined by `!`. A refusal writes nothing. */
+   another number of words the answer is 8. One: -171 where the spec has a `!`, -170 where it does not begin with an integer of 64 bits; what
+   follows the integer is not looked at. Two or three: -170 where the spec is not that many integers of 64 bits joined by `!`. A refusal
+   writes nothing. */
 int32_t vinderaz_coordinates(const uint8_t *spec, uint64_t spec_length, int64_t *words, uint64_t word_count);
 
 /* As vinderaz_coordinates, and refuses a negative coordinate with -224, after the other refusals. */

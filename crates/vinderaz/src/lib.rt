@@ -1,4 +1,5 @@
-// The face for C: what the readers answer, as numbers and words in lent slices. include/vinderaz.h says the same to a C programmer.
+// The C interface: what the readers answer, as numbers and words in lent slices. include/vinderaz.h says the same to a C programmer. Each
+// function returns 32 bits, so that no caller has to extend an answer.
 ghost use mathlib.Core.Path.{_≡_};
 ghost use lib.IntN.{pos};
 ghost use Rattle.mnemonic.specs.Mnemonic.{matches, compares};
@@ -58,7 +59,7 @@ pub extern "C" fn vinderaz_resolve(
     unit_words::put_resolved(slots, resolved)
 }
 
-// The same, in a table that was accepted before.
+// As `vinderaz_resolve`, without the check of the table.
 #[no_mangle]
 pub extern "C" fn vinderaz_resolve_accepted(
     nodes: &[u64],
@@ -92,7 +93,7 @@ pub extern "C" fn vinderaz_walk(
     unit_words::put_walked(units, walked)
 }
 
-// The same, in a table that was accepted before.
+// As `vinderaz_walk`, without the check of the table.
 #[no_mangle]
 pub extern "C" fn vinderaz_walk_accepted(
     nodes: &[u64],
@@ -166,7 +167,7 @@ pub extern "C" fn vinderaz_coordinates(spec: &[u8], words: &mut [i64]) -> i32
     coordinate_words::coordinates(spec, words)
 }
 
-// The same, none a negative.
+// As `vinderaz_coordinates`, and refuses a negative coordinate with -224.
 #[no_mangle]
 pub extern "C" fn vinderaz_unsigned_coordinates(spec: &[u8], words: &mut [u64]) -> i32
     ensures { λ r. ⌜ record { code = r; words = now (words .exit) } ≡ unsignedIn (now (spec .entry)) (now (words .entry)) ⌝ }

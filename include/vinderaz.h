@@ -178,7 +178,7 @@ int32_t vinderaz_resolve(const uint64_t *nodes, uint64_t node_count, const uint8
                          uint64_t start, const uint8_t *text, uint64_t text_length, uint64_t *slots, uint64_t slot_count);
 
 /* As vinderaz_resolve without the check, for a table that vinderaz_check has accepted. On another table it answers too, and does not look
-   for faults. */
+   for faults; the branch may then be none, and a next call from there answers 7. */
 int32_t vinderaz_resolve_accepted(const uint64_t *nodes, uint64_t node_count, const uint8_t *names, uint64_t names_length,
                                   uint64_t start, const uint8_t *text, uint64_t text_length, uint64_t *slots, uint64_t slot_count);
 

@@ -103,8 +103,7 @@ static inline const char *vinderaz_text(int32_t number) {
 }
 
 /* ---- Stack: the most that a function takes in bytes, on x86-64, aarch64, Cortex-M4 and Cortex-M0, at -O3 and -Os, with all that it calls but the
-   C library. It is counted from the machine code, and no library is made that takes more; the file STACK beside each has its own numbers, which
-   are lower. A table in which default branches lie in each other costs those that check it more for each of these after the first. */
+   C library. It is counted from the machine code, and no library is made that takes more; the file STACK beside each has its own numbers. A table in which default branches lie in each other costs those that check it more for each of these after the first. */
 enum {
     VINDERAZ_STACK_CHECK = 704,
     VINDERAZ_STACK_RESOLVE = 1920,

@@ -1,4 +1,4 @@
-/* Vinderaz: a reader of SCPI commands in which every answer is proved. Link with libvinderaz.a.
+/* Vinderaz: a reader of SCPI commands in which every answer is proved. C99 or later, or C++. Link with libvinderaz.a.
 
    Every function answers for every message, list, table and starting branch, and ends; a caller has nothing to check first. What the
    caller must see to is what C cannot tell:
@@ -6,14 +6,15 @@
    - A pointer and the length after it are one lent array. The pointer points to that many elements, aligned for their type; where the
      length is 0 it may be NULL. Nothing is kept after the call.
    - An array that is written (a pointer without const) overlaps no other array of the same call.
+   - There is as much stack as is said under Stack below.
 
    Each function returns 32 bits: those that compare a mnemonic 1 or 0, every other 0 or the number of a refusal, one of SCPI-99's, which
    are negative, or one of 1 to 9. What it writes, refused or not, is said beside it; every other word keeps what it held. Lengths, places and
    starts have 64 bits on every processor.
 
-   The functions are reentrant: they have no state of their own, take no memory and call nothing but, on some processors, the compiler's
-   own helpers (memcpy, memset, a product of 64 bits). Interrupts and threads may call them at the same time on arrays of their own.
-*/
+   The functions are reentrant: they have no state of their own and take no memory. On Linux they call nothing; on a Cortex-M they call
+   __aeabi_memcpy, __aeabi_memset and __aeabi_memclr of the C library, and on the M0 __aeabi_lmul of the compiler's. Interrupts and threads may
+   call them at the same time on arrays of their own. */
 #ifndef VINDERAZ_H
 #define VINDERAZ_H
 
@@ -33,7 +34,8 @@ extern "C" {
 /* ---- Types that do not fit do not compile
 
    The library takes lengths as 64 bits, and words of 64 bits that are aligned to 8 bytes. A compiler that aligns them otherwise, as some
-   older conventions of 32 bits do, would pass every argument after the first length in another place. */
+   older conventions of 32 bits do, would pass every argument after the first length in another place. The test is of a struct: where
+   structs are packed by an option or a pragma, include this header outside of it. */
 struct vinderaz_aligned {
     char first;
     uint64_t word;
@@ -41,11 +43,13 @@ struct vinderaz_aligned {
 typedef char vinderaz_words_are_aligned_to_8[sizeof(struct vinderaz_aligned) == 16 && offsetof(struct vinderaz_aligned, word) == 8 ? 1 : -1];
 
 /* In C a pointer to words of another width is often only a warning: size_t in the place of uint64_t fits a processor of 64 bits, and is written
-   past its end on one of 32. Each function that takes words is also a macro that refuses such a pointer. C++ refuses it by itself. */
+   past its end on one of 32. From C11 on each function that takes words is also a macro that refuses such a pointer; C++ refuses it by
+   itself, and C99 may only warn. A compound literal as an argument needs brackets around it; (vinderaz_token)(..) is the function without
+   the macro. */
 #if !defined(__cplusplus) && defined(__STDC_VERSION__) && __STDC_VERSION__ >= 201112L
-#define VINDERAZ_READ(p) _Generic((p), const uint64_t *: (p), uint64_t *: (p), void *: (p))
-#define VINDERAZ_WRITTEN(p) _Generic((p), uint64_t *: (p), void *: (p))
-#define VINDERAZ_SIGNED(p) _Generic((p), int64_t *: (p), void *: (p))
+#define VINDERAZ_READ(p) _Generic((p), const uint64_t *: (p), uint64_t *: (p), const void *: (p), void *: (p), int: (p))
+#define VINDERAZ_WRITTEN(p) _Generic((p), uint64_t *: (p), void *: (p), int: (p))
+#define VINDERAZ_SIGNED(p) _Generic((p), int64_t *: (p), void *: (p), int: (p))
 #define VINDERAZ_TYPED 1
 #endif
 
@@ -75,9 +79,9 @@ typedef char vinderaz_words_are_aligned_to_8[sizeof(struct vinderaz_aligned) == 
     X(NODE_COUNT, 1, "No node, or more than 4,096") \
     X(NODE_FIELDS, 2, "Fields that no root, branch or leaf has") \
     X(CHILD_BLOCKS, 3, "Child blocks that do not follow each other to the end") \
-    X(NODE_NAME, 4, "A name that is none") \
+    X(NODE_NAME, 4, "A name that no mnemonic could spell") \
     X(TWO_DEFAULTS, 5, "Two default children in a branch") \
-    X(SHARED_SPELLING, 6, "Two near nodes that one mnemonic spells") \
+    X(SHARED_SPELLING, 6, "Two nodes in reach of a branch that one mnemonic spells") \
     X(START_IS_NO_BRANCH, 7, "The start is no branch") \
     X(NO_SLOT_LEFT, 8, "No slot left") \
     X(MESSAGE_TOO_LONG, 9, "More than 65,535 bytes")
@@ -102,24 +106,24 @@ static inline const char *vinderaz_text(int32_t number) {
     }
 }
 
-/* ---- Stack: the most that a function takes in bytes, on x86-64, aarch64, Cortex-M4 and Cortex-M0, at -O3 and -Os, with all that it calls but the
-   C library. It is counted from the machine code, and no library is made that takes more; the file STACK beside each has its own numbers. A table in which default branches lie in each other costs those that check it more for each of these after the first. */
-enum {
-    VINDERAZ_STACK_CHECK = 704,
-    VINDERAZ_STACK_RESOLVE = 1920,
-    VINDERAZ_STACK_WALK = 2264,
-    VINDERAZ_STACK_DEFAULT = 200, /* check, resolve and walk: for each default branch that lies in another */
-    VINDERAZ_STACK_RESOLVE_ACCEPTED = 1904,
-    VINDERAZ_STACK_WALK_ACCEPTED = 2240,
-    VINDERAZ_STACK_MNEMONIC_MATCH = 368,
-    VINDERAZ_STACK_MNEMONIC_COMPARE = 80,
-    VINDERAZ_STACK_TOKEN = 1392,
-    VINDERAZ_STACK_CHANNEL_LIST = 40,
-    VINDERAZ_STACK_CHANNEL = 456,
-    VINDERAZ_STACK_NUMERIC = 172,
-    VINDERAZ_STACK_COORDINATES = 496,
-    VINDERAZ_STACK_UNSIGNED_COORDINATES = 488
-};
+/* ---- Stack: the most that a function takes in bytes, on x86-64, aarch64, Cortex-M4 and Cortex-M0, at -O3 and -Os, with 32 for what it calls of the
+   C library and the compiler's. It is counted from the machine code, and no library is made that takes more; the file STACK beside each
+   has its own numbers. What checks a table takes more for a default branch that is a child of a default branch, and again for one that is a
+   child of that: the most is 4,094 times. A table from elsewhere can be bounded before it is checked. */
+#define VINDERAZ_STACK_CHECK 704
+#define VINDERAZ_STACK_RESOLVE 1952
+#define VINDERAZ_STACK_WALK 2296
+#define VINDERAZ_STACK_DEFAULT 200 /* check, resolve and walk: for each default branch that is a child of another */
+#define VINDERAZ_STACK_RESOLVE_ACCEPTED 1936
+#define VINDERAZ_STACK_WALK_ACCEPTED 2272
+#define VINDERAZ_STACK_MNEMONIC_MATCH 368
+#define VINDERAZ_STACK_MNEMONIC_COMPARE 80
+#define VINDERAZ_STACK_TOKEN 1424
+#define VINDERAZ_STACK_CHANNEL_LIST 64
+#define VINDERAZ_STACK_CHANNEL 488
+#define VINDERAZ_STACK_NUMERIC 172
+#define VINDERAZ_STACK_COORDINATES 528
+#define VINDERAZ_STACK_UNSIGNED_COORDINATES 520
 
 /* ---- The command table
 
@@ -133,9 +137,15 @@ enum {
 #define VINDERAZ_LEAF(name, command) ((name) | VINDERAZ_FIELD(command, 65535) << 26)
 #define VINDERAZ_DEFAULT ((uint64_t)1 << 62) /* | this to a node that may be left unsaid */
 
-/* The arguments are constants, and one that does not fit its field does not compile. */
+/* The arguments are constants, and one that does not fit its field does not compile. Whether the table is a good one is for vinderaz_check to say. */
 #ifdef __cplusplus
-#define VINDERAZ_FIELD(value, most) ((uint64_t)(value) + 0 * sizeof(char[(uint64_t)(value) <= (most) ? 1 : -1]))
+extern "C++" {
+template <bool> struct vinderaz_fits;
+template <> struct vinderaz_fits<true> {
+    enum { zero = 0 };
+};
+}
+#define VINDERAZ_FIELD(value, most) ((uint64_t)(value) + vinderaz_fits<((uint64_t)(value) <= (most))>::zero)
 #else
 #define VINDERAZ_FIELD(value, most) \
     ((uint64_t)(value) + 0 * sizeof(struct { int this_does_not_fit : (uint64_t)(value) <= (most) ? 1 : -1; }))
@@ -177,7 +187,7 @@ int32_t vinderaz_resolve(const uint64_t *nodes, uint64_t node_count, const uint8
                          uint64_t start, const uint8_t *text, uint64_t text_length, uint64_t *slots, uint64_t slot_count);
 
 /* As vinderaz_resolve without the check, for a table that vinderaz_check has accepted. On another table it answers too, and does not look
-   for faults; the branch may then be none, and a next call from there answers 7. */
+   for faults; the branch kept may then be no branch of it, and a next call from there answers 7. */
 int32_t vinderaz_resolve_accepted(const uint64_t *nodes, uint64_t node_count, const uint8_t *names, uint64_t names_length,
                                   uint64_t start, const uint8_t *text, uint64_t text_length, uint64_t *slots, uint64_t slot_count);
 
@@ -197,7 +207,8 @@ int32_t vinderaz_walk_accepted(const uint64_t *nodes, uint64_t node_count, const
 
    A step goes on from what the step before it left in an array of eight words, and leaves there its answer. With fewer words it answers
    8 and writes nothing; words after the eighth are not touched. Views are places in the text: from a start up to an end. A refusal
-   leaves VINDERAZ_END as the kind, the place at the end of the text and the state as it was: the step after it finds the end. */
+   leaves VINDERAZ_END as the kind, the place at the end of the text and the flags as they were, as 0 or 1: the step after it finds the
+   end. From a place beyond the text a step finds the end too, and leaves that place. */
 enum {
     VINDERAZ_PLACE = 0,     /* where the next step begins */
     VINDERAZ_IN_HEADER = 1, /* tokens: not 0 in a header */
@@ -267,28 +278,42 @@ int32_t vinderaz_coordinates(const uint8_t *spec, uint64_t spec_length, int64_t 
 /* As vinderaz_coordinates, and refuses a negative coordinate with -224, after the other refusals. */
 int32_t vinderaz_unsigned_coordinates(const uint8_t *spec, uint64_t spec_length, uint64_t *words, uint64_t word_count);
 
-#ifdef VINDERAZ_TYPED
-#define vinderaz_check(nodes, node_count, names, names_length) \
+#ifdef VINDERAZ_TYPED /* in two steps, so that an argument may be a macro of two arguments: a text and its length */
+#define vinderaz_check(...) VINDERAZ_CHECK_TYPED(__VA_ARGS__)
+#define VINDERAZ_CHECK_TYPED(nodes, node_count, names, names_length) \
     vinderaz_check(VINDERAZ_READ(nodes), node_count, names, names_length)
-#define vinderaz_resolve(nodes, node_count, names, names_length, start, text, text_length, slots, slot_count) \
+#define vinderaz_resolve(...) VINDERAZ_RESOLVE_TYPED(__VA_ARGS__)
+#define VINDERAZ_RESOLVE_TYPED(nodes, node_count, names, names_length, start, text, text_length, slots, slot_count) \
     vinderaz_resolve(VINDERAZ_READ(nodes), node_count, names, names_length, start, text, text_length, VINDERAZ_WRITTEN(slots), slot_count)
-#define vinderaz_resolve_accepted(nodes, node_count, names, names_length, start, text, text_length, slots, slot_count) \
-    vinderaz_resolve_accepted(VINDERAZ_READ(nodes), node_count, names, names_length, start, text, text_length, VINDERAZ_WRITTEN(slots), \
-                              slot_count)
-#define vinderaz_walk(nodes, node_count, names, names_length, start, text, text_length, slots, slot_count, units, unit_count) \
-    vinderaz_walk(VINDERAZ_READ(nodes), node_count, names, names_length, start, text, text_length, VINDERAZ_WRITTEN(slots), slot_count, \
-                  VINDERAZ_WRITTEN(units), unit_count)
-#define vinderaz_walk_accepted(nodes, node_count, names, names_length, start, text, text_length, slots, slot_count, units, unit_count) \
+#define vinderaz_resolve_accepted(...) VINDERAZ_RESOLVE_ACCEPTED_TYPED(__VA_ARGS__)
+#define VINDERAZ_RESOLVE_ACCEPTED_TYPED(nodes, node_count, names, names_length, start, text, text_length, slots, slot_count) \
+    vinderaz_resolve_accepted(VINDERAZ_READ(nodes), node_count, names, names_length, start, text, text_length, \
+        VINDERAZ_WRITTEN(slots), slot_count)
+#define vinderaz_walk(...) VINDERAZ_WALK_TYPED(__VA_ARGS__)
+#define VINDERAZ_WALK_TYPED(nodes, node_count, names, names_length, start, text, text_length, slots, slot_count, units, unit_count) \
+    vinderaz_walk(VINDERAZ_READ(nodes), node_count, names, names_length, start, text, text_length, VINDERAZ_WRITTEN(slots), \
+        slot_count, VINDERAZ_WRITTEN(units), unit_count)
+#define vinderaz_walk_accepted(...) VINDERAZ_WALK_ACCEPTED_TYPED(__VA_ARGS__)
+#define VINDERAZ_WALK_ACCEPTED_TYPED(nodes, node_count, names, names_length, start, text, text_length, slots, slot_count, units, unit_count) \
     vinderaz_walk_accepted(VINDERAZ_READ(nodes), node_count, names, names_length, start, text, text_length, VINDERAZ_WRITTEN(slots), \
-                           slot_count, VINDERAZ_WRITTEN(units), unit_count)
-#define vinderaz_token(text, text_length, words, word_count) vinderaz_token(text, text_length, VINDERAZ_WRITTEN(words), word_count)
-#define vinderaz_channel_list(text, text_length, words, word_count) \
+        slot_count, VINDERAZ_WRITTEN(units), unit_count)
+#define vinderaz_token(...) VINDERAZ_TOKEN_TYPED(__VA_ARGS__)
+#define VINDERAZ_TOKEN_TYPED(text, text_length, words, word_count) \
+    vinderaz_token(text, text_length, VINDERAZ_WRITTEN(words), word_count)
+#define vinderaz_channel_list(...) VINDERAZ_CHANNEL_LIST_TYPED(__VA_ARGS__)
+#define VINDERAZ_CHANNEL_LIST_TYPED(text, text_length, words, word_count) \
     vinderaz_channel_list(text, text_length, VINDERAZ_WRITTEN(words), word_count)
-#define vinderaz_channel(text, text_length, words, word_count) vinderaz_channel(text, text_length, VINDERAZ_WRITTEN(words), word_count)
-#define vinderaz_numeric(text, text_length, words, word_count) vinderaz_numeric(text, text_length, VINDERAZ_WRITTEN(words), word_count)
-#define vinderaz_coordinates(spec, spec_length, words, word_count) \
+#define vinderaz_channel(...) VINDERAZ_CHANNEL_TYPED(__VA_ARGS__)
+#define VINDERAZ_CHANNEL_TYPED(text, text_length, words, word_count) \
+    vinderaz_channel(text, text_length, VINDERAZ_WRITTEN(words), word_count)
+#define vinderaz_numeric(...) VINDERAZ_NUMERIC_TYPED(__VA_ARGS__)
+#define VINDERAZ_NUMERIC_TYPED(text, text_length, words, word_count) \
+    vinderaz_numeric(text, text_length, VINDERAZ_WRITTEN(words), word_count)
+#define vinderaz_coordinates(...) VINDERAZ_COORDINATES_TYPED(__VA_ARGS__)
+#define VINDERAZ_COORDINATES_TYPED(spec, spec_length, words, word_count) \
     vinderaz_coordinates(spec, spec_length, VINDERAZ_SIGNED(words), word_count)
-#define vinderaz_unsigned_coordinates(spec, spec_length, words, word_count) \
+#define vinderaz_unsigned_coordinates(...) VINDERAZ_UNSIGNED_COORDINATES_TYPED(__VA_ARGS__)
+#define VINDERAZ_UNSIGNED_COORDINATES_TYPED(spec, spec_length, words, word_count) \
     vinderaz_unsigned_coordinates(spec, spec_length, VINDERAZ_WRITTEN(words), word_count)
 #endif
 

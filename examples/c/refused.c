@@ -1,14 +1,18 @@
-/* What the header refuses when it is compiled: with CASE 0 this compiles, and with each other it must not. run tries them all. */
+/* What the header refuses when it is compiled: with CASE 0 this compiles without a warning, and with each other it must not. run tries them all
+   in C and in C++. */
 #include "vinderaz.h"
 
 static const uint8_t names[] = "ABORt";
 static const uint64_t nodes[] = {
-    VINDERAZ_BRANCH(VINDERAZ_NAME(0, 0), 1, CASE == 1 ? 65536 : 1), /* CASE 1: a child count of 17 bits */
-    VINDERAZ_LEAF(VINDERAZ_NAME(0, CASE == 2 ? 16 : 5), 7),         /* CASE 2: a name length of 5 bits */
-    VINDERAZ_LEAF(VINDERAZ_NAME(CASE == 3 ? -1 : 0, 5), 7),         /* CASE 3: a start below zero */
-    VINDERAZ_LEAF(VINDERAZ_NAME(0, 5), CASE == 4 ? 65543 : 65535),  /* CASE 4: a command of 17 bits */
-    VINDERAZ_BRANCH(VINDERAZ_NAME(0, 5), CASE == 5 ? 65536 : 1, 1), /* CASE 5: a first child of 17 bits */
+    VINDERAZ_BRANCH(VINDERAZ_NAME(0, 0), 1, CASE == 1 ? 65536 : 1), /* 1: a child count of 17 bits */
+    VINDERAZ_LEAF(VINDERAZ_NAME(0, CASE == 2 ? 16 : 5), 7),         /* 2: a name length of 5 bits */
+    VINDERAZ_LEAF(VINDERAZ_NAME(CASE == 3 ? -1 : 0, 5), 7),         /* 3: a start below zero */
+    VINDERAZ_LEAF(VINDERAZ_NAME(0, 5), CASE == 4 ? 65543 : 65535),  /* 4: a command of 17 bits */
+    VINDERAZ_BRANCH(VINDERAZ_NAME(0, 5), CASE == 5 ? 65536 : 1, 1), /* 5: a first child of 17 bits */
 };
+
+/* a text and its length as one macro */
+#define TEXT(s) (const uint8_t *)(s), sizeof(s) - 1
 
 int32_t all(const uint8_t *text, uint64_t length);
 
@@ -50,7 +54,7 @@ int32_t all(const uint8_t *text, uint64_t length) {
            vinderaz_walk(nodes, 5, names, 5, 0, text, length, slots, 4, &units, 1) +
            vinderaz_walk_accepted(nodes, 5, names, 5, 0, NULL, 0, NULL, 0, NULL, 0) +
            vinderaz_resolve(nodes, 5, names, 5, 0, text, length, kept, 4) +
-           vinderaz_resolve_accepted(nodes, 5, names, 5, 0, text, length, slots, 4) + vinderaz_token(text, length, other, VINDERAZ_WORDS) +
+           vinderaz_resolve_accepted(nodes, 5, names, 5, 0, TEXT("ABOR"), slots, 4) + vinderaz_numeric(NULL, 0, NULL, 0) + vinderaz_token(text, length, other, VINDERAZ_WORDS) +
            vinderaz_channel_list(text, length, words, VINDERAZ_WORDS) + vinderaz_channel(text, length, words, VINDERAZ_WORDS) +
            vinderaz_numeric(text, length, words, VINDERAZ_WORDS) + vinderaz_coordinates(text, length, at, 2) +
            vinderaz_coordinates(text, length, signed_at, 2) + vinderaz_unsigned_coordinates(text, length, words, 2) +

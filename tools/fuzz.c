@@ -3,18 +3,29 @@
 
    fuzz N SEED: N calls, each made twice, on arrays in two places. What it prints depends on N, on SEED and on the answers, so two
    processors print the same. Exit status 1: an answer is not as the header says, a call touched what was not lent, or, of 100,000 calls and
-   more, a function answered or refused none; 2: wrong arguments or no memory. */
+   more, a function answered or refused none; 2: wrong arguments or no memory.
+
+   With FUZZ_BARE it needs no operating system: N and SEED are FUZZ_CALLS and FUZZ_SEED, and arrays lie in plain memory, the written ones with
+   a pattern beside them, without pages that cannot be touched. It prints the same. */
 #define _DEFAULT_SOURCE
 #include "vinderaz.h"
 
 #include <inttypes.h>
-#include <signal.h>
 #include <stdarg.h>
 #include <stdio.h>
 #include <stdlib.h>
 #include <string.h>
+#ifdef FUZZ_BARE
+#ifndef PRIu64 /* newlib has none in strict C */
+#define PRIu64 "llu"
+#define PRIi64 "lli"
+#define PRIx64 "llx"
+#endif
+#else
+#include <signal.h>
 #include <sys/mman.h>
 #include <unistd.h>
+#endif
 
 /* Every function of the header; tools/fuzz compares this list with it. */
 #define FUNCTIONS(X) \
@@ -82,6 +93,7 @@ enum { MOST_NODES = 70000, MOST_BYTES = 140000, MOST_SLOTS = 40000, MOST_UNITS =
    twice: to read where it is lent, and to write for the fuzzer. */
 struct lent {
     const char *what;
+    bool written;
     uint64_t width, count, size;
     uint8_t *room[2], *own[2];
 };
@@ -95,8 +107,24 @@ _Noreturn static void out_of(const char *what) {
     exit(2);
 }
 
+#ifdef FUZZ_BARE
+/* In plain memory both calls read the same input; a written array has two rooms. */
 static void reserve(struct lent *l, const char *what, uint64_t most, uint64_t width, bool written) {
     l->what = what;
+    l->written = written;
+    l->width = width;
+    l->size = most * width + 2 * AROUND;
+    for (int side = 0; side < 2; side++) {
+        l->room[side] = side == 1 && !written ? l->room[0] : malloc((size_t)l->size);
+        if (!l->room[side]) out_of("fuzz: malloc");
+        l->own[side] = l->room[side];
+        memset(l->own[side], PATTERN, (size_t)l->size);
+    }
+}
+#else
+static void reserve(struct lent *l, const char *what, uint64_t most, uint64_t width, bool written) {
+    l->what = what;
+    l->written = written;
     l->width = width;
     l->size = (most * width + 2 * AROUND + PAGE - 1) / PAGE * PAGE;
     for (int side = 0; side < 2; side++) {
@@ -117,8 +145,14 @@ static void reserve(struct lent *l, const char *what, uint64_t most, uint64_t wi
         fclose(file);
     }
 }
+#endif
 
-static uint64_t offset(const struct lent *l, int side) { return side == 0 ? l->size - l->count * l->width : 0; }
+static uint64_t offset(const struct lent *l, int side) {
+#ifdef FUZZ_BARE
+    if (!l->written) return 0;
+#endif
+    return side == 0 ? l->size - l->count * l->width : 0;
+}
 
 static uint8_t *mine(const struct lent *l, int side) { return l->own[side] + offset(l, side); }
 
@@ -214,7 +248,7 @@ _Noreturn static void report(const char *format, va_list arguments) {
     if (writes(function)) print_words("slots or words before", slot_words, slots.count);
     if (is_walk(function)) print_words("units before", unit_words, units.count);
     fflush(stderr);
-    _exit(1);
+    _Exit(1);
 }
 
 static void fail(const char *format, ...) {
@@ -223,6 +257,7 @@ static void fail(const char *format, ...) {
     report(format, arguments);
 }
 
+#ifndef FUZZ_BARE
 /* The library calls nothing, so no stream is in use where a call is interrupted. qemu does not align the stack of a handler on x86-64. */
 #ifdef __x86_64__
 __attribute__((force_align_arg_pointer))
@@ -230,12 +265,13 @@ __attribute__((force_align_arg_pointer))
 static void caught(int number) {
     if (!in_call) {
         static const char own[] = "fuzz: a signal outside a call: a fault of the fuzzer\n";
-        if (write(2, own, sizeof own - 1) < 0) _exit(1);
-        _exit(1);
+        if (write(2, own, sizeof own - 1) < 0) _Exit(1);
+        _Exit(1);
     }
     if (number == SIGALRM) fail("the call does not end");
     fail("signal %s", number == SIGSEGV ? "SIGSEGV" : number == SIGBUS ? "SIGBUS" : number == SIGILL ? "SIGILL" : "SIGFPE");
 }
+#endif
 
 /* ---- One call */
 
@@ -449,7 +485,9 @@ static void sum(uint64_t value) { checksum = mixed(checksum ^ value) + 0x9E3779B
 static int32_t run(enum function f) {
     function = f;
     calls++;
+#ifndef FUZZ_BARE
     if (calls % 4096 == 1) alarm(300);
+#endif
     if (!writes(f)) slots.count = 0;
     if (!is_walk(f)) units.count = 0;
     expect_unused(&slots);
@@ -1086,6 +1124,11 @@ static void print_counts(void) {
     printf("\n");
 }
 
+#ifdef FUZZ_BARE
+int main(void) {
+    wanted = FUZZ_CALLS;
+    seed = FUZZ_SEED;
+#else
 int main(int count, char **arguments) {
     char *end_1 = NULL, *end_2 = NULL;
     if (count == 3) {
@@ -1096,6 +1139,7 @@ int main(int count, char **arguments) {
         fprintf(stderr, "fuzz N SEED: two numbers, the first not 0\n");
         return 2;
     }
+#endif
     generator = mixed(seed);
     reserve(&nodes, "nodes", MOST_NODES, 8, false);
     reserve(&names, "names", MOST_NODES, 1, false);
@@ -1104,12 +1148,14 @@ int main(int count, char **arguments) {
     reserve(&slots, "slots", MOST_SLOTS, 8, true);
     reserve(&units, "units", MOST_UNITS, 8, true);
 
+#ifndef FUZZ_BARE
     static uint8_t stack[65536];
     stack_t other = {.ss_sp = stack, .ss_size = sizeof stack};
     struct sigaction action = {.sa_handler = caught, .sa_flags = SA_ONSTACK};
     sigaltstack(&other, NULL);
     static const int caught_signals[] = {SIGSEGV, SIGBUS, SIGILL, SIGFPE, SIGALRM};
     for (int i = 0; i < 5; i++) sigaction(caught_signals[i], &action, NULL);
+#endif
 
     while (!done()) {
         switch (below(20)) {

@@ -323,15 +323,20 @@ static void put_steps(const struct steps *steps, struct bytes text, uint64_t *wo
     look(&fenced_text);
 }
 
-/* Lends the words that a first step begins with. */
-static uint64_t *begin(const uint64_t words[VINDERAZ_WORDS]) {
-    return memcpy(lend_room(&step_room, VINDERAZ_WORDS), words, VINDERAZ_WORDS * sizeof *words);
-}
-
 /* Takes the last field of a request as a text, and lends it. */
 static bool take_last_text(struct line *line, struct bytes *text) {
     if (!take_text(line, text) || !is_last(line)) return false;
     text->at = lend(&fenced_text, *text);
+    return true;
+}
+
+/* Puts the steps of the text that a request has, from these words on. */
+static bool put_text(struct line *line, const struct steps *steps, const uint64_t first[VINDERAZ_WORDS]) {
+    struct bytes text;
+    if (!take_last_text(line, &text)) return false;
+    uint64_t *words = lend_room(&step_room, VINDERAZ_WORDS);
+    memcpy(words, first, VINDERAZ_WORDS * sizeof *words);
+    put_steps(steps, text, words);
     return true;
 }
 
@@ -375,19 +380,13 @@ static const struct steps token_steps = { vinderaz_token, put_token, true, true 
 /* T: the tokens of a message. */
 static bool message_tokens(struct line *line) {
     static const uint64_t first[] = VINDERAZ_MESSAGE;
-    struct bytes text;
-    if (!take_last_text(line, &text)) return false;
-    put_steps(&token_steps, text, begin(first));
-    return true;
+    return put_text(line, &token_steps, first);
 }
 
 /* D: the tokens of data alone. */
 static bool data_tokens(struct line *line) {
     static const uint64_t first[] = VINDERAZ_DATA;
-    struct bytes text;
-    if (!take_last_text(line, &text)) return false;
-    put_steps(&token_steps, text, begin(first));
-    return true;
+    return put_text(line, &token_steps, first);
 }
 
 static void put_numeric(struct bytes text, const uint64_t *words) {
@@ -410,10 +409,7 @@ static const struct steps numeric_steps = { vinderaz_numeric, put_numeric, false
 /* N: the items of a numeric list. */
 static bool numeric_list(struct line *line) {
     static const uint64_t first[] = VINDERAZ_NUMERIC_LIST;
-    struct bytes text;
-    if (!take_last_text(line, &text)) return false;
-    put_steps(&numeric_steps, text, begin(first));
-    return true;
+    return put_text(line, &numeric_steps, first);
 }
 
 /* ---- Channel lists */

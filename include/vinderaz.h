@@ -1,7 +1,7 @@
 /* Vinderaz: a reader of SCPI commands in which every answer is proved. C99 or later, or C++. Link with libvinderaz.a.
 
    Every function answers for every message, list, table and starting branch, and ends; a caller has nothing to check first. What the
-   caller must see to is what C cannot tell:
+   caller must see to is what no function can find out:
 
    - A pointer and the length after it are one lent array. The pointer points to that many elements, aligned for their type; where the
      length is 0 it may be NULL. Nothing is kept after the call.
@@ -279,42 +279,26 @@ int32_t vinderaz_coordinates(const uint8_t *spec, uint64_t spec_length, int64_t 
 int32_t vinderaz_unsigned_coordinates(const uint8_t *spec, uint64_t spec_length, uint64_t *words, uint64_t word_count);
 
 #ifdef VINDERAZ_TYPED /* in two steps, so that an argument may be a macro of two arguments: a text and its length */
-#define vinderaz_check(...) VINDERAZ_CHECK_TYPED(__VA_ARGS__)
-#define VINDERAZ_CHECK_TYPED(nodes, node_count, names, names_length) \
-    vinderaz_check(VINDERAZ_READ(nodes), node_count, names, names_length)
-#define vinderaz_resolve(...) VINDERAZ_RESOLVE_TYPED(__VA_ARGS__)
-#define VINDERAZ_RESOLVE_TYPED(nodes, node_count, names, names_length, start, text, text_length, slots, slot_count) \
-    vinderaz_resolve(VINDERAZ_READ(nodes), node_count, names, names_length, start, text, text_length, VINDERAZ_WRITTEN(slots), slot_count)
-#define vinderaz_resolve_accepted(...) VINDERAZ_RESOLVE_ACCEPTED_TYPED(__VA_ARGS__)
-#define VINDERAZ_RESOLVE_ACCEPTED_TYPED(nodes, node_count, names, names_length, start, text, text_length, slots, slot_count) \
-    vinderaz_resolve_accepted(VINDERAZ_READ(nodes), node_count, names, names_length, start, text, text_length, \
-        VINDERAZ_WRITTEN(slots), slot_count)
-#define vinderaz_walk(...) VINDERAZ_WALK_TYPED(__VA_ARGS__)
-#define VINDERAZ_WALK_TYPED(nodes, node_count, names, names_length, start, text, text_length, slots, slot_count, units, unit_count) \
-    vinderaz_walk(VINDERAZ_READ(nodes), node_count, names, names_length, start, text, text_length, VINDERAZ_WRITTEN(slots), \
-        slot_count, VINDERAZ_WRITTEN(units), unit_count)
-#define vinderaz_walk_accepted(...) VINDERAZ_WALK_ACCEPTED_TYPED(__VA_ARGS__)
-#define VINDERAZ_WALK_ACCEPTED_TYPED(nodes, node_count, names, names_length, start, text, text_length, slots, slot_count, units, unit_count) \
-    vinderaz_walk_accepted(VINDERAZ_READ(nodes), node_count, names, names_length, start, text, text_length, VINDERAZ_WRITTEN(slots), \
-        slot_count, VINDERAZ_WRITTEN(units), unit_count)
-#define vinderaz_token(...) VINDERAZ_TOKEN_TYPED(__VA_ARGS__)
-#define VINDERAZ_TOKEN_TYPED(text, text_length, words, word_count) \
-    vinderaz_token(text, text_length, VINDERAZ_WRITTEN(words), word_count)
-#define vinderaz_channel_list(...) VINDERAZ_CHANNEL_LIST_TYPED(__VA_ARGS__)
-#define VINDERAZ_CHANNEL_LIST_TYPED(text, text_length, words, word_count) \
-    vinderaz_channel_list(text, text_length, VINDERAZ_WRITTEN(words), word_count)
-#define vinderaz_channel(...) VINDERAZ_CHANNEL_TYPED(__VA_ARGS__)
-#define VINDERAZ_CHANNEL_TYPED(text, text_length, words, word_count) \
-    vinderaz_channel(text, text_length, VINDERAZ_WRITTEN(words), word_count)
-#define vinderaz_numeric(...) VINDERAZ_NUMERIC_TYPED(__VA_ARGS__)
-#define VINDERAZ_NUMERIC_TYPED(text, text_length, words, word_count) \
-    vinderaz_numeric(text, text_length, VINDERAZ_WRITTEN(words), word_count)
-#define vinderaz_coordinates(...) VINDERAZ_COORDINATES_TYPED(__VA_ARGS__)
-#define VINDERAZ_COORDINATES_TYPED(spec, spec_length, words, word_count) \
-    vinderaz_coordinates(spec, spec_length, VINDERAZ_SIGNED(words), word_count)
-#define vinderaz_unsigned_coordinates(...) VINDERAZ_UNSIGNED_COORDINATES_TYPED(__VA_ARGS__)
-#define VINDERAZ_UNSIGNED_COORDINATES_TYPED(spec, spec_length, words, word_count) \
-    vinderaz_unsigned_coordinates(spec, spec_length, VINDERAZ_WRITTEN(words), word_count)
+#define VINDERAZ_OF_TABLE(f, nodes, ...) f(VINDERAZ_READ(nodes), __VA_ARGS__)
+#define VINDERAZ_OF_SLOTS(f, nodes, node_count, names, names_length, start, text, text_length, slots, ...) \
+    f(VINDERAZ_READ(nodes), node_count, names, names_length, start, text, text_length, VINDERAZ_WRITTEN(slots), __VA_ARGS__)
+#define VINDERAZ_OF_UNITS(f, nodes, node_count, names, names_length, start, text, text_length, slots, slot_count, units, unit_count) \
+    f(VINDERAZ_READ(nodes), node_count, names, names_length, start, text, text_length, VINDERAZ_WRITTEN(slots), slot_count, \
+      VINDERAZ_WRITTEN(units), unit_count)
+#define VINDERAZ_OF_WORDS(f, text, text_length, words, word_count) f(text, text_length, VINDERAZ_WRITTEN(words), word_count)
+#define VINDERAZ_OF_SIGNED(f, text, text_length, words, word_count) f(text, text_length, VINDERAZ_SIGNED(words), word_count)
+
+#define vinderaz_check(...) VINDERAZ_OF_TABLE((vinderaz_check), __VA_ARGS__)
+#define vinderaz_resolve(...) VINDERAZ_OF_SLOTS((vinderaz_resolve), __VA_ARGS__)
+#define vinderaz_resolve_accepted(...) VINDERAZ_OF_SLOTS((vinderaz_resolve_accepted), __VA_ARGS__)
+#define vinderaz_walk(...) VINDERAZ_OF_UNITS((vinderaz_walk), __VA_ARGS__)
+#define vinderaz_walk_accepted(...) VINDERAZ_OF_UNITS((vinderaz_walk_accepted), __VA_ARGS__)
+#define vinderaz_token(...) VINDERAZ_OF_WORDS((vinderaz_token), __VA_ARGS__)
+#define vinderaz_channel_list(...) VINDERAZ_OF_WORDS((vinderaz_channel_list), __VA_ARGS__)
+#define vinderaz_channel(...) VINDERAZ_OF_WORDS((vinderaz_channel), __VA_ARGS__)
+#define vinderaz_numeric(...) VINDERAZ_OF_WORDS((vinderaz_numeric), __VA_ARGS__)
+#define vinderaz_coordinates(...) VINDERAZ_OF_SIGNED((vinderaz_coordinates), __VA_ARGS__)
+#define vinderaz_unsigned_coordinates(...) VINDERAZ_OF_WORDS((vinderaz_unsigned_coordinates), __VA_ARGS__)
 #endif
 
 #ifdef __cplusplus

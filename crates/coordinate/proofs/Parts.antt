@@ -39,7 +39,7 @@ worth false n = cond (ltb n (2 ^ 63)) (some (pos n)) none
 abbrev bounded : Bool → ℕ → Option ℤ
 bounded minus n = cond (ltb n (2 ^ 64)) (worth minus n) none
 
--- that value, with the place behind it
+-- that value, with the place after it
 abbrev asSigned : Option ℤ → ℕ → Signed
 asSigned none end = Signed.TooLarge
 asSigned (some v) end = Signed.Value v end
@@ -104,7 +104,7 @@ no-minus : (b : ℕ) → isDigit b ≡ true → eqb b 45 ≡ false
 unfolding isDigit
 no-minus b d = ne-eqb b 45 (λ e. omega (arith, leb-true 48 b (and-left (leb 48 b) (leb b 57) d), e))
 
--- the sign of an integer, told from the text that it begins
+-- the sign of an integer, from the text that it begins
 sign-here : (s : List ℕ) (at : ℕ) (x y : List ℕ) → drop at s ≡ x ++ y → length x ≤ 1 → isDigit (getD y 0 0) ≡ true → standsAt 45 s at ≡ standsAt 45 x 0
 unfolding standsAt
 sign-here s at [] y h k d = rw (here-get s at y h, no-minus (getD y 0 0) d, and-false (ltb at (length s)))
@@ -116,7 +116,7 @@ unfolding every
 first-digit [] y h a = absurd (omega (arith, h))
 first-digit (d ∷ ds) y h a = and-left (isDigit d) (every isDigit ds) a
 
--- An integer that begins at a place, with no digit behind it.
+-- An integer that begins at a place, with no digit after it.
 module _ (s : List ℕ) (at : ℕ) (w y : List ℕ) (h : drop at s ≡ w ++ y) (f : Whole w)
     (some-digit : 0 < length (f .digits)) (stops : isDigit (getD y 0 0) ≡ false) where
   apart : drop at s ≡ f .sign ++ (f .digits ++ y)

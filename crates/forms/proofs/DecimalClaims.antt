@@ -35,7 +35,7 @@ data Numeric (s : List ℕ) (at next : ℕ) : Token → Type 0 where
   with-suffix : {v u : View} → v .start ≡ at → Number (partOf s v) → u .start ≡ runEnd isWhiteSpace s (v .end) → Suffix (partOf s u) → Ended s (u .end) next
       → Numeric s at next (DecimalNumericSuffixProgramData v u)
 
--- a place where a byte of a class stands that 0 is not of is inside the text
+-- a place with a byte of a class that 0 is not of is inside the text
 inside : (p : ℕ → Bool) → p 0 ≡ false → (s : List ℕ) (i : ℕ) → p (getD s i 0) ≡ true → i < length s
 inside p z s i h =
     ⊎-elim (λ k. k) (λ k. let e : getD s i 0 ≡ 0 = List·getD-eq-default s 0 k in absurd (true≢false (sym h ∙ ap p e ∙ z)))
@@ -125,7 +125,7 @@ module _ (s : List ℕ) (i : ℕ) where
             count = rw e (omega arith);
           }
 
-  -- a digit behind the point makes it end inside the text, and so does a place that is inside
+  -- a digit after the point makes it end inside the text, and so does a place that is inside
   fraction-most : i ≤ length s → fractionEnd s i ≤ length s
   unfolding fractionEnd
   fraction-most h =
@@ -141,7 +141,7 @@ module _ (s : List ℕ) (i : ℕ) where
   unfolding hasFraction
   fraction-digits h = omega (arith, fraction-form .count, ltb-true 1 (fractionEnd s i - i) h)
 
-  -- behind a mantissa that ends inside the text
+  -- after a mantissa that ends inside the text
   exponent-form : (end : ℕ) → i ≤ length s → exponent s i ≡ At end → (i ≤ end) × (end ≤ length s) × ((part s i end ≡ []) ⊎ Exponent (part s i end))
   unfolding exponent beginsExponent
   exponent-form end h = go (beginsExponent (getD s i 0)) (hasWhole s (i + 1)) refl refl

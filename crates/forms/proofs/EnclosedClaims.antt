@@ -26,7 +26,7 @@ use Rattle.forms.specs.EnclosedForm.StringBody.{empty, plain, doubled}
 use Rattle.enclosed.proofs.Strings.{plain as in-plain, doubled as in-doubled}
 use Rattle.forms.specs.EnclosedClaims.{Claims}
 
--- a byte that stands at a place stands inside the text
+-- a place that has a byte is inside the text
 stands-inside : (b : ℕ) (s : List ℕ) (i : ℕ) → standsAt b s i ≡ true → i < length s
 unfolding standsAt
 stands-inside b s i h = ltb-true i (length s) (and-left (ltb i (length s)) (eqb (getD s i 0) b) h)

@@ -1,4 +1,4 @@
--- What is read at a place ends behind it: no token is empty. What a separator leads to lies at the place behind it or further on.
+-- What is read at a place ends after it: no token is empty. What a separator leads to lies at the place after it or further on.
 use Prim.Native.Nat.{ℕ, _+_, _-_, _<_, _≤_, _^_}
 use mathlib.Core.Path.{_≡_}
 use mathlib.Core.List.{List}
@@ -70,7 +70,7 @@ module _ (s : List ℕ) (at : ℕ) where
           by-test (Behind at) (leb (runEnd inMnemonic s at - at) 12)
           (λ _. followed-behind _ _ (runEnd inMnemonic s at) (run-moves inMnemonic s at h e)) (λ _. tt)
 
--- the end of a decimal number lies behind a place
+-- the end of a decimal number lies after a place
 abbrev Ends : ℕ → Place → Type 0
 Ends at (At end) = at < end
 Ends at Nowhere = Unit {0}
@@ -150,14 +150,14 @@ by-end s at P r f = go (number s at)
     go (At end) = f _
     go Nowhere = r _
 
--- the digits of a number of another base end behind a place
+-- the digits of a number of another base end after a place
 abbrev Found : ℕ → Unsigned → Type 0
 Found at (Unsigned.Value v end) = at < end
 Found at Unsigned.NoDigit = Unit {0}
 Found at Unsigned.TooLarge = Unit {0}
 
 module _ (s : List ℕ) (at : ℕ) where
-  -- an item of data that begins at a place behind another
+  -- an item of data that begins at a place after another
   module _ (i : ℕ) (h : at < i) where
     unsigned-found : (radix : Radix) → Found at (unsignedAt radix s i)
     unfolding unsignedAt unsignedOf foundAt
@@ -215,7 +215,7 @@ module _ (s : List ℕ) (at : ℕ) where
   unfolding hashData
   hash-behind i h = by-test (Behind at) (leb (length s) i) (λ _. tt) (λ _. hash-by (i + 1) (omega (arith, h)) (getD s i 0))
 
--- an item of data that begins at a place behind another
+-- an item of data that begins at a place after another
 module _ (s : List ℕ) (at i : ℕ) (h : at < i) where
   pub expression-behind : Behind at (expressionData s i)
   unfolding expressionData bracketed

@@ -28,7 +28,7 @@ use Rattle.util.specs.Walk.{after}
 use Rattle.util.proofs.Walks.{arrives}
 use Rattle.channel_list.specs.declared.Answer.the-variants.{Refused, End}
 
--- what begins a spec may stand in one
+-- what begins a spec may be in one
 begins-in : (b : ℕ) → beginsSpec b ≡ true → inSpec b ≡ true
 unfolding beginsSpec inSpec
 begins-in b h = ⊎-elim (λ d. or-left _ d) (λ g. or-right (isDigit b) (or-left _ g)) (either (isDigit b) (isSign b) h)
@@ -44,7 +44,7 @@ module _ (s : List ℕ) (at : ℕ) where
   spec-moves h e = run-moves inSpec s at h (begins-in (getD s at 0) e)
 
 module _ (s : List ℕ) (st : State) (P : Step → Type 0) (refuses : (e : ErrorCode) → P (refusal s st e)) where
-  -- What holds of a refusal and of every item that begins at a place, holds of what stands there.
+  -- What holds of a refusal and of every item that begins at a place, holds of what is there.
   module _ (at : ℕ) (h : at < length s) (takes : (t : Token) (next : ℕ) → at < next → Item s at t next → P (taken t next)) where
     abbrev first : ℕ
     first = getD s at 0

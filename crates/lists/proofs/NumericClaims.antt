@@ -29,7 +29,7 @@ use Rattle.numeric_list.specs.declared.Answer.the-variants.{Refused, End}
 use Rattle.numeric_list.proofs.List.{end′}
 
 module _ (s : List ℕ) (st : State) (P : Step → Type 0) (refuses : P (refusal s st)) where
-  -- What holds of a refusal and of every item that begins at a place, holds of what stands there.
+  -- What holds of a refusal and of every item that begins at a place, holds of what is there.
   module _ (at : ℕ) (takes : (t : Token) (next : ℕ) → at < next → Item s at t next → P (taken t next)) where
     range-each : (end : ℕ) → at < end → Number (partOf s (viewOf at end)) → standsAt 58 s end ≡ true
         → (r : Read) → nrf s (end + 1) ≡ r → Behind (end + 1) r → P (rangeBy s st (end + 1) (viewOf at end) r)

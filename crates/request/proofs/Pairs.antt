@@ -19,7 +19,7 @@ use Rattle.integer.specs.Digit.{digitOf, isDigitOf}
 use Rattle.request.specs.Hex.{isHex, arePairs, bytesOf, isDash}
 use Rattle.request.specs.{Unhex.Outcome, Unhex.written, declared.Text.the-variants.Until}
 
--- hex digits, told by their value
+-- hex digits by their value
 module _ (b x : ℕ) (e : x ≡ digitOf b) where
   hex : x < 16 → isHex b ≡ true
   unfolding isDigitOf

@@ -1,4 +1,4 @@
--- What stands between commas, cut off one piece after the other, and words written one after the other.
+-- What is between commas, cut off one piece after the other, and words written one after the other.
 use Prim.Native.Nat.{ℕ, suc, _+_, _-_, _≤_, _<_}
 use mathlib.Core.Path.{_≡_, refl, sym, ap, _∙_}
 use mathlib.Core.List.{List, [], _∷_}
@@ -23,7 +23,7 @@ use Rattle.request.proofs.Numbers.{part}
 long : List ℕ → ℕ
 long t = run (isOther 44) t
 
--- the pieces behind the comma that a text begins with
+-- the pieces after the comma that a text begins with
 behind : List ℕ → List (List ℕ)
 behind [] = []
 behind (b ∷ t) = pieces t

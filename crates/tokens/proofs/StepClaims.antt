@@ -15,7 +15,7 @@ use Rattle.tokenizer.specs.declared.Answer.the-variants.{Token, Refused, End}
 use Rattle.tokenizer.proofs.Steps.{end′}
 use Rattle.tokens.proofs.StepProgress.{each}
 
--- what a refusal and an end tell of the state behind them
+-- what a refusal and an end say of the state after them
 abbrev Tells : List ℕ → State → Answer → State → Type 0
 Tells s st (Token t) to = Unit {0}
 Tells s st (Refused e) to = to ≡ stateOf (length s) (inHeader st) (inCommon st)

@@ -1,4 +1,6 @@
 // What the next token is to a header. `run_tokens` and `exec` of tree/mod.rs of the original peek at it.
+#![tactic(auto)]
+
 ghost use Rattle.std.specs.Prelude.{◌≡◌};
 ghost use Rattle.ahead.specs.Seen.{token_ahead, ahead_of, seen_at};
 
@@ -7,7 +9,7 @@ use token::{Token, View};
 use tokenizer::{Answer, State};
 
 // What ends a header: white space, `;` or the end of the text.
-#[derive(Drop)]
+#[derive(Clone, Copy)]
 pub enum Stop {
     Separator,
     Unit,
@@ -15,7 +17,7 @@ pub enum Stop {
 }
 
 // What a token is to a header.
-#[derive(Drop)]
+#[derive(Clone, Copy)]
 pub enum Ahead {
     // a mnemonic
     Word(View),
@@ -28,7 +30,7 @@ pub enum Ahead {
 }
 
 // What is ahead, and the state behind it.
-#[derive(Drop)]
+#[derive(Clone, Copy)]
 pub struct Seen {
     pub ahead: Ahead,
     pub state: State,

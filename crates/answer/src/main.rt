@@ -1,4 +1,6 @@
 // Answers requests: a line of standard input each, and for each a line of standard output.
+#![tactic(auto)]
+
 mod lists;
 mod messages;
 mod tables;
@@ -6,10 +8,10 @@ mod tables;
 ghost use Rattle.std.specs.Prelude.{◌+◌, ◌≤◌, length};
 ghost use Rattle.io.specs.Counts.{IsPrefixLen};
 
-use libc::{STDIN_FILENO, STDOUT_FILENO};
 use lists::{put_channels, put_numbers};
 use messages::walk_message;
 use request::Text;
+use std::io::{Print, Read, Stdin, Stdout};
 use tables::{check_table, resolve_alone};
 use tokenizer::{Answer, Step};
 
@@ -22,32 +24,34 @@ type Texts = [u8; 300000];
 
 type Out = [u8; 65536];
 
-// The answers that wait in the output buffer: how many bytes they are, and whether every write so far went well.
-#[derive(Drop)]
+// The answers that wait in the output buffer: how many bytes they are, whether every write so far went well, and where they go.
+#[derive(Clone, Copy)]
 struct Sink {
     used: usize,
     ok: bool,
+    to: Stdout,
 }
 
 // Between two reads: how many bytes of the next line are there, more than the line buffer has where the line
 // is too long; and the answers that wait.
-#[derive(Drop)]
+#[derive(Clone, Copy)]
 struct State {
     held: usize,
     sink: Sink,
 }
 
-fn main() {
+fn main(rt: HostRuntime) {
     let mut input = [0u8; 65536];
     let mut line = [0u8; 600000];
     let mut words = [0u64; 4097];
     let mut text = [0u8; 300000];
     let mut out = [0u8; 65536];
-    answer_all(&mut input, &mut line, &mut words, &mut text, &mut out);
+    answer_all(rt, &mut input, &mut line, &mut words, &mut text, &mut out);
 }
 
 // Nothing says that the input ends, so the turns are counted down, from a number that no run uses up.
 fn answer_all(
+    rt: HostRuntime,
     input: &mut [u8],
     line: &mut Line,
     words: &mut Nodes,
@@ -57,10 +61,14 @@ fn answer_all(
     let mut turns = u64::MAX;
     let mut state = State {
         held: 0,
-        sink: Sink { used: 0, ok: true },
+        sink: Sink {
+            used: 0,
+            ok: true,
+            to: rt.stdout(),
+        },
     };
     while turns > 0 {
-        let n = fill(input);
+        let n = fill(rt.stdin(), input);
         if n == 0 {
             finish(state, line, words, text, out);
             return;
@@ -74,11 +82,14 @@ fn answer_all(
 }
 
 // Reads once, and answers how many bytes came: none at the end of the input, and where the read fails.
-fn fill(input: &mut [u8]) -> usize
+fn fill(from: Stdin, input: &mut [u8]) -> usize
     ensures { IsPrefixLen result input.new }
 {
-    let got = libc::read(STDIN_FILENO, input);
-    io::count(got, input)
+    let mut reader = from;
+    match reader.read(input) {
+        Ok(n) => n,
+        Err(_) => 0,
+    }
 }
 
 // Answers each line that ends in what was read. What stands behind the last newline is kept for the next time.
@@ -165,7 +176,8 @@ fn flush(out: &[u8], sink: Sink) {
     if out.len() < used {
         return;
     }
-    io::write_all(STDOUT_FILENO, &out[..used]);
+    // Nothing is left to tell of a write that fails.
+    let _ = sink.to.write_all(&out[..used]);
 }
 
 // A line that is too long is no request.
@@ -298,7 +310,7 @@ fn is_token(step: Step) -> bool {
 
 // Whether a text was taken from a line; the place behind its field in the line, and the place behind its bytes
 // in the text buffer.
-#[derive(Drop)]
+#[derive(Clone, Copy)]
 struct Taken {
     ok: bool,
     next: usize,
@@ -353,31 +365,43 @@ fn put(out: &mut Out, sink: Sink, answer: &[u8]) -> Sink {
 // more is written.
 fn put_behind(out: &mut [u8], sink: Sink, answer: &[u8]) -> Sink {
     let used = sink.used;
+    let to = sink.to;
     if !sink.ok {
         return sink;
     }
     if out.len() < used {
-        return Sink { used: 0, ok: false };
+        return Sink {
+            used: 0,
+            ok: false,
+            to,
+        };
     }
     if answer.len() <= out.len() - used {
         copy(answer, out, used);
         return Sink {
             used: used + answer.len(),
             ok: true,
+            to,
         };
     }
-    if !io::write_all(STDOUT_FILENO, &out[..used]) {
-        return Sink { used: 0, ok: false };
+    if !to.write_all(&out[..used]).is_ok() {
+        return Sink {
+            used: 0,
+            ok: false,
+            to,
+        };
     }
     if out.len() < answer.len() {
         return Sink {
             used: 0,
-            ok: io::write_all(STDOUT_FILENO, answer),
+            ok: to.write_all(answer).is_ok(),
+            to,
         };
     }
     copy(answer, out, 0);
     Sink {
         used: answer.len(),
         ok: true,
+        to,
     }
 }

@@ -85,7 +85,7 @@ pub(crate) fn put_form(out: &mut Out, sink: Sink, query: bool) -> Sink {
 // Whether a table, a start, a number of slots and a text were taken from a line; how many words the table has in the word
 // buffer, the place behind its names in the text buffer, the start, how many slots there are, and the place behind the text,
 // which follows the names.
-#[derive(Drop)]
+#[derive(Clone, Copy)]
 pub(crate) struct Asked {
     pub(crate) ok: bool,
     pub(crate) nodes: usize,
@@ -146,7 +146,7 @@ fn not_asked() -> Asked
 }
 
 // Whether a start and a number of slots were taken from a line; the place behind their fields in the line, and the numbers.
-#[derive(Drop)]
+#[derive(Clone, Copy)]
 struct TakenNumbers {
     ok: bool,
     next: usize,
@@ -197,7 +197,7 @@ fn resolve_taken(words: &[u64], text: &[u8], taken: Asked) -> Resolved
 }
 
 // Whether a number was taken from a line; the place behind its field in the line, and the number.
-#[derive(Drop)]
+#[derive(Clone, Copy)]
 struct TakenNumber {
     ok: bool,
     next: usize,
@@ -224,7 +224,7 @@ fn take_number(line: &[u8], at: usize) -> TakenNumber {
 
 // Whether a table was taken from a line; the place behind its field in the line, how many words it has in the word
 // buffer, and the place behind its names in the text buffer.
-#[derive(Drop)]
+#[derive(Clone, Copy)]
 struct TakenTable {
     ok: bool,
     next: usize,

@@ -1,5 +1,7 @@
 // The branches of a table and their children. What a branch's children are, and how they are gone through, is known here alone. `exec` of
 // tree/mod.rs of the original goes through them.
+#![tactic(auto)]
+
 ghost use Rattle.std.specs.Prelude.{◌≡◌};
 ghost use Rattle.util.specs.Decides.{Decides};
 ghost use Rattle.node.specs.Tree.{branch, Child};
@@ -7,14 +9,14 @@ ghost use Rattle.branch.specs.Children.{unsaid_in, PicksIn};
 ghost use Rattle.branch.specs.Block.{block_of, children_of, next_child};
 
 // The child that was looked for.
-#[derive(Drop)]
+#[derive(Clone, Copy)]
 pub enum Pick {
     Child(usize),
     None,
 }
 
 // The children of a branch: the nodes from one index up to another, and not the one there.
-#[derive(Drop)]
+#[derive(Clone, Copy)]
 pub struct Block {
     pub from: usize,
     pub to: usize,

@@ -1,4 +1,6 @@
 // Channel lists, SCPI-99 8.3.2. expression/channel_list.rs of the original.
+#![tactic(auto)]
+
 ghost use Rattle.std.specs.Prelude.{◌<◌, ◌≡◌, length};
 ghost use Rattle.channel_list.specs.List.{opened, taken, refusal, begins_spec, range_to, specs_at, path_at, item_at, step, step_at, Inside};
 
@@ -7,7 +9,7 @@ use error::ErrorCode;
 use item::Read;
 use token::View;
 
-#[derive(Drop)]
+#[derive(Clone, Copy)]
 pub enum Token {
     // `1!2`
     ChannelSpec(ChannelSpec),
@@ -18,13 +20,13 @@ pub enum Token {
 }
 
 // Where a step begins: its place, and whether it is the first of the list.
-#[derive(Drop)]
+#[derive(Clone, Copy)]
 pub struct State {
     pub place: usize,
     pub first: bool,
 }
 
-#[derive(Drop)]
+#[derive(Clone, Copy)]
 pub enum Answer {
     Token(Token),
     End,
@@ -32,21 +34,21 @@ pub enum Answer {
 }
 
 // The answer of a step, and where the next one begins.
-#[derive(Drop)]
+#[derive(Clone, Copy)]
 pub struct Step {
     pub answer: Answer,
     pub state: State,
 }
 
 // The front of a channel list, or that the text is not one.
-#[derive(Drop)]
+#[derive(Clone, Copy)]
 pub enum Opened {
     List(State),
     NotOne,
 }
 
 // Where the next item of a list begins, or what stands there in its place.
-#[derive(Drop)]
+#[derive(Clone, Copy)]
 enum Front {
     Item(usize),
     End(usize),

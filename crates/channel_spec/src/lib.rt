@@ -1,4 +1,6 @@
 // A channel spec, SCPI-99 8.3.2: its dimension and its items. expression/channel_list.rs of the original.
+#![tactic(auto)]
+
 ghost use Rattle.std.specs.Prelude.{◌≡◌};
 ghost use Rattle.channel_spec.specs.Spec.{in_spec, bang, spec_at};
 ghost use Rattle.channel_spec.specs.Item.{refusal, item_of, item_at};
@@ -8,14 +10,14 @@ use integer::Signed;
 use token::View;
 
 // A channel spec: its part of the text, and its dimension.
-#[derive(Drop)]
+#[derive(Clone, Copy)]
 pub struct ChannelSpec {
     pub view: View,
     pub dimension: usize,
 }
 
 // An item of a spec's walk.
-#[derive(Drop)]
+#[derive(Clone, Copy)]
 pub enum Item {
     Value(i64),
     End,
@@ -23,7 +25,7 @@ pub enum Item {
 }
 
 // The answer of a step of the walk, and where the next one begins.
-#[derive(Drop)]
+#[derive(Clone, Copy)]
 pub struct Step {
     pub item: Item,
     pub place: usize,

@@ -1,5 +1,7 @@
 // The coordinates of a channel, SCPI-99 8.3.2. A spec is given as its part of the text, and its `!` are counted there.
 // expression/channel_list.rs of the original.
+#![tactic(auto)]
+
 ghost use Rattle.std.specs.Prelude.{◌≡◌, ltb, drop};
 ghost use Rattle.channel_spec.specs.Spec.{bangs};
 ghost use Rattle.coordinate.specs.Coordinate.{coordinate_of, written, pair_of, triple_of};
@@ -8,33 +10,33 @@ ghost use Rattle.coordinate.specs.Reading.{no_coordinate, joined_at, last_of};
 use error::ErrorCode;
 use integer::Signed;
 
-#[derive(Drop)]
+#[derive(Clone, Copy)]
 pub enum Coordinate {
     Value(i64),
     Refused(ErrorCode),
 }
 
-#[derive(Drop)]
+#[derive(Clone, Copy)]
 pub enum Pair {
     Values(i64, i64),
     Refused(ErrorCode),
 }
 
-#[derive(Drop)]
+#[derive(Clone, Copy)]
 pub enum Triple {
     Values(i64, i64, i64),
     Refused(ErrorCode),
 }
 
 // An integer that a `!` follows, and the place behind that; or that there is none.
-#[derive(Drop)]
+#[derive(Clone, Copy)]
 enum Joined {
     Value { value: i64, next: usize },
     Nothing,
 }
 
 // An integer that ends the text, or that there is none.
-#[derive(Drop)]
+#[derive(Clone, Copy)]
 enum Last {
     Value(i64),
     Nothing,

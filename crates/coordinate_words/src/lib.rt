@@ -1,4 +1,6 @@
 // The coordinates of a channel spec, written into as many lent words.
+#![tactic(auto)]
+
 ghost use Rattle.std.specs.Prelude.{◌≡◌};
 ghost use Rattle.words.specs.Outcome.{Outcome};
 ghost use Rattle.coordinate_words.specs.Coordinates.{coordinates_in, unsigned_in};

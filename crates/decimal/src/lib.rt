@@ -1,4 +1,6 @@
 // Decimal numbers, IEEE 488.2 7.7.2, and their suffixes, 7.7.3.
+#![tactic(auto)]
+
 ghost use Rattle.std.specs.Prelude.{◌≡◌};
 ghost use Rattle.item.specs.Near.{run_end_among};
 ghost use Rattle.decimal.specs.Decimal.{fraction_end, mantissa, begins_exponent, exponent, number, nrf, in_suffix, begins_suffix, suffix_data, numeric_data};
@@ -8,7 +10,7 @@ use item::Read;
 use token::{Token, View};
 
 // A place, or that there is none.
-#[derive(Drop)]
+#[derive(Clone, Copy)]
 pub enum Place {
     At(usize),
     Nowhere,

@@ -1,4 +1,6 @@
 // What stands between quotes or brackets: strings, IEEE 488.2 7.7.5, and expressions, 7.7.7.
+#![tactic(auto)]
+
 ghost use Rattle.std.specs.Prelude.{◌≡◌};
 ghost use Rattle.util.specs.Run.{run_end};
 ghost use Rattle.enclosed.specs.String.{string_end, string_data};

@@ -1,9 +1,11 @@
 // The refusals of the reader. error.rs of the original.
+#![tactic(auto)]
+
 ghost use Rattle.std.specs.Prelude.{◌≡◌};
 ghost use Rattle.error.specs.Code.{code_of};
 
 // The original's names for the numbers of SCPI-99 21.8; behind them the port's own, 1 to 9.
-#[derive(Drop)]
+#[derive(Clone, Copy)]
 pub enum ErrorCode {
     InvalidCharacter,
     SyntaxError,

@@ -1,4 +1,6 @@
 // What a `#` begins: numbers in another radix, IEEE 488.2 7.7.4, and blocks, 7.7.6.
+#![tactic(auto)]
+
 ghost use Rattle.std.specs.Prelude.{◌<◌, ◌≡◌};
 ghost use Rattle.hash.specs.Nondecimal.{nondecimal_data};
 ghost use Rattle.hash.specs.Block.{payload, definite, indefinite, arbitrary_data, hash_data};

@@ -1,5 +1,7 @@
 // Headers: from a branch of the command tree down to the command that one names, by calls from each branch to its child. `run_tokens` and
 // `exec` of tree/mod.rs of the original.
+#![tactic(auto)]
+
 ghost use Rattle.std.specs.Prelude.{◌<◌, ◌≡◌, true, false, length};
 ghost use Rattle.node.specs.Tree.{branch};
 ghost use Rattle.ahead.specs.Seen.{seen_at};
@@ -14,7 +16,7 @@ use spoken::Spoken;
 use tokenizer::State;
 
 // The command of a header, its form, the branch that the next header starts from, what ended the header, and the place after that.
-#[derive(Drop)]
+#[derive(Clone, Copy)]
 pub enum Header {
     Found {
         command: u16,
@@ -27,7 +29,7 @@ pub enum Header {
 }
 
 // Where a header begins: the node, the place of its first mnemonic, and whether that has a star.
-#[derive(Drop)]
+#[derive(Clone, Copy)]
 enum Front {
     From {
         node: usize,

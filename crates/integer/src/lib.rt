@@ -4,7 +4,7 @@ ghost use Rattle.integer.specs.Digit.{digit_of};
 ghost use Rattle.integer.specs.Number.{base_of, found_at, longer, unsigned_at, signed_of, signed_at};
 
 // How a number is written.
-#[derive(Drop)]
+#[derive(Clone, Copy)]
 pub enum Radix {
     Binary,
     Octal,
@@ -13,7 +13,7 @@ pub enum Radix {
 }
 
 // A number and the place behind its digits; or that there is no digit, or that it does not fit 64 bits.
-#[derive(Drop)]
+#[derive(Clone, Copy)]
 pub enum Unsigned {
     Value { value: u64, end: usize },
     NoDigit,
@@ -21,7 +21,7 @@ pub enum Unsigned {
 }
 
 // The same with a sign.
-#[derive(Drop)]
+#[derive(Clone, Copy)]
 pub enum Signed {
     Value { value: i64, end: usize },
     NoDigit,
@@ -61,7 +61,7 @@ fn found(value: u64, at: usize, end: usize) -> Unsigned
 }
 
 // A value, or that it does not fit 64 bits.
-#[derive(Drop)]
+#[derive(Clone, Copy)]
 enum Longer {
     Value(u64),
     TooLarge,

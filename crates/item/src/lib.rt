@@ -1,4 +1,6 @@
 // What the forms of program data share, IEEE 488.2 7.7, and words: the mnemonic of a header, 7.6.1, and character data, 7.7.1.
+#![tactic(auto)]
+
 ghost use Rattle.std.specs.Prelude.{◌≡◌};
 ghost use Rattle.kind.specs.Class.{in_mnemonic};
 ghost use Rattle.item.specs.Follow.{ends_data, followed};
@@ -15,7 +17,7 @@ pub const LONGEST_MNEMONIC: usize = 12;
 const NEAR: usize = 13;
 
 // A token and the place behind it, with the white space behind an item of data passed; or a refusal.
-#[derive(Drop)]
+#[derive(Clone, Copy)]
 pub enum Read {
     Token { token: Token, next: usize },
     Refused(ErrorCode),

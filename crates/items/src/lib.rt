@@ -1,4 +1,6 @@
 // The data of a message unit: how many items follow a header. `Parameters` of tree/mod.rs of the original.
+#![tactic(auto)]
+
 ghost use Rattle.std.specs.Prelude.{◌≡◌, false, get_or};
 ghost use Rattle.tokenizer.specs.Step.{state_of};
 ghost use Rattle.items.specs.Items.{Items};
@@ -10,7 +12,7 @@ use separator::Pass;
 use tokenizer::{Answer, State};
 
 // How many items a unit has, and the place after what ended them.
-#[derive(Drop)]
+#[derive(Clone, Copy)]
 pub enum Data {
     Items { count: usize, place: usize },
     Refused(ErrorCode),

@@ -1,4 +1,6 @@
 // The kind of a byte, and the classes of characters that the readers ask for.
+#![tactic(auto)]
+
 mod kinds;
 
 ghost use Rattle.std.specs.Prelude.{◌≡◌};

@@ -1,4 +1,6 @@
 // The layout of a node table, and the names of its nodes: faults 1 to 4, one function a fault.
+#![tactic(auto)]
+
 ghost use Rattle.std.specs.Prelude.{◌<◌, ◌≡◌, length};
 ghost use Rattle.util.specs.Decides.{Decides};
 ghost use Rattle.layout.specs.Layout.{NodeCount, NodeFields, ChildBlocks, BadName, NodeName};

@@ -1,4 +1,6 @@
 // The message walk: the units of a message, each written as one word. `Node::run` of tree/mod.rs of the original.
+#![tactic(auto)]
+
 ghost use Rattle.std.specs.Prelude.{◌+◌, ◌<◌, ◌≡◌, length, set, true, false};
 ghost use Rattle.message.specs.Message.{is_text, is_end, Units, Message, CheckedMessage, Walks};
 ghost use Rattle.tokenizer.specs.Step.{state_of};
@@ -11,7 +13,7 @@ use tokenizer::State;
 use unit::Unit;
 
 // How many units were written; and what refused the next one, where a message is not read to its end.
-#[derive(Drop)]
+#[derive(Clone, Copy)]
 pub enum Walked {
     Units(usize),
     Refused { units: usize, error: ErrorCode },

@@ -1,4 +1,6 @@
 // Mnemonics: which spoken word is which name. tokenizer/util.rs of the original.
+#![tactic(auto)]
+
 ghost use Rattle.std.specs.Prelude.{◌≡◌};
 ghost use Rattle.kind.specs.Text.{ascii};
 ghost use Rattle.util.specs.Run.{every};

@@ -1,4 +1,6 @@
 // Names of the node table: which texts are names, and which names share a spelling.
+#![tactic(auto)]
+
 ghost use Rattle.std.specs.Prelude.{◌≡◌};
 ghost use Rattle.kind.specs.Class.{is_capital};
 ghost use Rattle.util.specs.Decides.{Decides};

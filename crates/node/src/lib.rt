@@ -1,4 +1,6 @@
 // The nodes of a command tree, each a word of 64 bits. `Node` of tree/mod.rs of the original.
+#![tactic(auto)]
+
 ghost use Rattle.std.specs.Prelude.{◌≡◌};
 ghost use Rattle.node.specs.Word.{is_branch, is_default, name_length, name_start, first_child, command_number, child_count, spare_bits, name_in, initial_in};
 

@@ -1,4 +1,6 @@
 // Numeric lists, SCPI-99 8.3.3. expression/numeric_list.rs of the original.
+#![tactic(auto)]
+
 ghost use Rattle.std.specs.Prelude.{◌<◌, ◌≡◌, length};
 ghost use Rattle.numeric_list.specs.List.{of_list, taken, refusal, begins, range_to, item_at, step, step_at};
 
@@ -6,7 +8,7 @@ use error::ErrorCode;
 use item::Read;
 use token::View;
 
-#[derive(Drop)]
+#[derive(Clone, Copy)]
 pub enum Token {
     // `1`
     Numeric(View),
@@ -15,13 +17,13 @@ pub enum Token {
 }
 
 // Where a step begins: its place, and whether it is the first of the list.
-#[derive(Drop)]
+#[derive(Clone, Copy)]
 pub struct State {
     pub place: usize,
     pub first: bool,
 }
 
-#[derive(Drop)]
+#[derive(Clone, Copy)]
 pub enum Answer {
     Token(Token),
     End,
@@ -29,14 +31,14 @@ pub enum Answer {
 }
 
 // The answer of a step, and where the next one begins.
-#[derive(Drop)]
+#[derive(Clone, Copy)]
 pub struct Step {
     pub answer: Answer,
     pub state: State,
 }
 
 // Where the next item of a list begins, or that there is none.
-#[derive(Drop)]
+#[derive(Clone, Copy)]
 enum Front {
     Item(usize),
     Refused,

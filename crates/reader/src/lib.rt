@@ -1,4 +1,6 @@
 // A reader of a message, which holds the message and the state of its step. `Tokenizer<'a>` of tokenizer/mod.rs of the original.
+#![tactic(auto)]
+
 ghost use Rattle.std.specs.Prelude.{◌≡◌};
 ghost use Rattle.token.specs.View.{part_of};
 ghost use Rattle.tokenizer.specs.Step.{state_of, of_message, of_data, step};
@@ -7,7 +9,7 @@ ghost use Rattle.reader.specs.Ahead.{reader_of, ahead, behind};
 use token::View;
 use tokenizer::{Answer, State, Step};
 
-#[derive(Drop)]
+#[derive(Clone, Copy)]
 pub struct Reader<'a> {
     pub message: &'a [u8],
     pub state: State,

@@ -1,9 +1,11 @@
 // The record of a message unit, one word of 64 bits.
+#![tactic(auto)]
+
 ghost use Rattle.std.specs.Prelude.{◌≡◌};
 ghost use Rattle.record.specs.Word.{word_of, record_in};
 
 // A unit that was read: its command, whether it is a query, the branch that it keeps, and how many items it has.
-#[derive(Drop)]
+#[derive(Clone, Copy)]
 pub struct Record {
     pub command: u16,
     pub query: bool,

@@ -1,4 +1,6 @@
 // The answers to a name and a word, of the token step and of the message walk as text.
+#![tactic(auto)]
+
 mod mnemonics;
 mod token_text;
 mod unit_text;

@@ -9,7 +9,7 @@ use error::ErrorCode;
 use record::Record;
 
 // A line: a unit that was read, by its number in the message; the one that is refused; or the end, with the number of units.
-#[derive(Drop)]
+#[derive(Clone, Copy)]
 pub enum Told {
     Unit { number: usize, unit: Record },
     Refused { number: usize, error: ErrorCode },

@@ -1,4 +1,6 @@
 // Reading a request line: its fields, and the bytes that a field in hex says.
+#![tactic(auto)]
+
 ghost use Rattle.std.specs.Prelude.{◌≡◌, true, ◌+◌, ◌-◌, ◌/◌, ◌≤◌, length};
 ghost use Rattle.std.proofs.Math.Seq.{slice};
 ghost use Rattle.util.specs.Run.{run_end};
@@ -14,7 +16,7 @@ pub use table_text::{Number, Words, read_number, read_words, slash};
 use util::skip_ws;
 
 // A part of a line, from its start up to its end.
-#[derive(Drop)]
+#[derive(Clone, Copy)]
 pub struct Part {
     pub start: usize,
     pub end: usize,
@@ -45,7 +47,7 @@ fn skip_ink(line: &[u8], at: usize) -> usize
 }
 
 // The place behind a text that was written, or that none was.
-#[derive(Drop)]
+#[derive(Clone, Copy)]
 pub enum Text {
     Until(usize),
     Bad,

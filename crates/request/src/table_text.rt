@@ -34,7 +34,7 @@ fn find(s: &[u8], at: usize, b: u8) -> usize
 }
 
 // A number, or that none was read.
-#[derive(Drop)]
+#[derive(Clone, Copy)]
 pub enum Number {
     Value(u64),
     Bad,
@@ -70,7 +70,7 @@ fn whole_number(s: &[u8]) -> Number
 }
 
 // How many words were read, or that not all were words.
-#[derive(Drop)]
+#[derive(Clone, Copy)]
 pub enum Words {
     Count(usize),
     Bad,

@@ -1,11 +1,13 @@
 // What separators of a program message let stand behind them: newline, `:`, `?` and `,`. A part of tokenizer/mod.rs of the original.
+#![tactic(auto)]
+
 ghost use Rattle.std.specs.Prelude.{◌≡◌};
 ghost use Rattle.separator.specs.Separator.{newline_to, follows_colon, colon_to, follows_query, question_to, comma_to};
 
 use error::ErrorCode;
 
 // The place that a separator leads to, or a refusal.
-#[derive(Drop)]
+#[derive(Clone, Copy)]
 pub enum Pass {
     To(usize),
     Refused(ErrorCode),

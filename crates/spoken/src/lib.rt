@@ -1,6 +1,8 @@
 // The mnemonic at a place and the names of nodes: which of some nodes it spells. Letters and digits are compared in place; the end of the
 // mnemonic is looked for only where these do not decide, which for a name of an accepted table is all but never. `Token::match_program_header`
 // of tokenizer/token.rs of the original.
+#![tactic(auto)]
+
 ghost use Rattle.std.specs.Prelude.{◌+◌, ◌≤◌, ◌<◌, ◌≡◌, true, false, length, get_or, drop};
 ghost use Rattle.util.specs.Run.{run_end};
 ghost use Rattle.node.specs.Word.{name_in};
@@ -10,7 +12,7 @@ ghost use Rattle.spoken.specs.Internal.{agrees, begin_alike, common, goes_on_at,
 use item::Read;
 
 // Whether the mnemonic at a place spells a name.
-#[derive(Drop)]
+#[derive(Clone, Copy)]
 pub enum Spelled {
     // it does, and ends before the place
     To(usize),
@@ -18,7 +20,7 @@ pub enum Spelled {
 }
 
 // The node that the mnemonic at a place spells, and the place after the mnemonic.
-#[derive(Drop)]
+#[derive(Clone, Copy)]
 pub enum Spoken {
     Node { node: usize, next: usize },
     None,

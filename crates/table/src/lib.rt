@@ -1,4 +1,6 @@
 // The check of a node table: its nodes, a lent slice of words, and the lent text of their names.
+#![tactic(auto)]
+
 ghost use Rattle.std.specs.Prelude.{◌≡◌, true};
 ghost use Rattle.util.specs.Decides.{Decides};
 ghost use Rattle.mnemonic.specs.Spelling.{Name};
@@ -10,7 +12,7 @@ use branch::Pick;
 use error::ErrorCode;
 
 // What the check says of a table: that it is accepted, or its smallest fault.
-#[derive(Drop)]
+#[derive(Clone, Copy)]
 pub enum Checked {
     Accepted,
     Fault(ErrorCode),

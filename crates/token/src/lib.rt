@@ -1,16 +1,18 @@
 // The tokens of a program message. tokenizer/token.rs of the original, with places where that has slices.
+#![tactic(auto)]
+
 ghost use Rattle.std.specs.Prelude.{◌≡◌};
 ghost use Rattle.token.specs.View.{part_of};
 ghost use Rattle.token.specs.Token.{is_data, view_in, matches_header};
 
 // A part of the text: from its start up to its end.
-#[derive(Drop)]
+#[derive(Clone, Copy)]
 pub struct View {
     pub start: usize,
     pub end: usize,
 }
 
-#[derive(Drop)]
+#[derive(Clone, Copy)]
 pub enum Token {
     // `:`
     HeaderMnemonicSeparator,

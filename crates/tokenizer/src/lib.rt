@@ -1,4 +1,6 @@
 // The token step. tokenizer/mod.rs of the original.
+#![tactic(auto)]
+
 ghost use Rattle.std.specs.Prelude.{◌≡◌, true, false};
 ghost use Rattle.tokenizer.specs.Step.{state_of, is_in_common, of_message, of_data, taken, refusal, ended, read_as, passed, newline_before, colon_before, question_before, comma_before, word_at, outside, step};
 ghost use Rattle.kind.specs.Class.{is_white_space};
@@ -16,14 +18,14 @@ use separator::Pass;
 use token::Token;
 
 // Where a step begins: its place, and whether that is in a header and in a common command.
-#[derive(Drop)]
+#[derive(Clone, Copy)]
 pub struct State {
     pub place: usize,
     pub in_header: bool,
     pub in_common: bool,
 }
 
-#[derive(Drop)]
+#[derive(Clone, Copy)]
 pub enum Answer {
     Token(Token),
     End,
@@ -31,7 +33,7 @@ pub enum Answer {
 }
 
 // The answer of a step, and where the next one begins.
-#[derive(Drop)]
+#[derive(Clone, Copy)]
 pub struct Step {
     pub answer: Answer,
     pub state: State,

@@ -1,4 +1,6 @@
 // Resolution alone: one header, from a branch of a table down to its command. `Node::run` of tree/mod.rs of the original.
+#![tactic(auto)]
+
 ghost use Rattle.std.specs.Prelude.{◌≡◌};
 ghost use Rattle.tree.specs.Alone.{alone_with, Resolves, ResolvesAlone};
 
@@ -10,7 +12,7 @@ use table::Checked;
 pub const LONGEST_MESSAGE: usize = 65535;
 
 // The command that a header names, its form and the branch kept; or a refusal.
-#[derive(Drop)]
+#[derive(Clone, Copy)]
 pub enum Resolved {
     Command {
         command: u16,

@@ -1,4 +1,6 @@
 // Message units: a header and its items of data. `run_tokens` of tree/mod.rs of the original.
+#![tactic(auto)]
+
 ghost use Rattle.std.specs.Prelude.{◌≡◌, true, false};
 ghost use Rattle.tokenizer.specs.Step.{state_of};
 ghost use Rattle.ahead.specs.Seen.{seen_at};
@@ -11,7 +13,7 @@ use items::Data;
 use record::Record;
 
 // A unit as it is recorded, and the place after it.
-#[derive(Drop)]
+#[derive(Clone, Copy)]
 pub enum Unit {
     Read { record: Record, place: usize },
     Refused(ErrorCode),

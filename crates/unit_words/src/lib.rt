@@ -1,4 +1,6 @@
 // What is answered about a table, a header and a message, as a number and lent words.
+#![tactic(auto)]
+
 ghost use Rattle.std.specs.Prelude.{◌≡◌};
 ghost use Rattle.words.specs.Outcome.{Outcome};
 ghost use Rattle.unit_words.specs.Answers.{checked_code, resolved_in, walked_in};

@@ -1,4 +1,6 @@
 // The unsigned forms of a channel's coordinates: those of `coordinate`, none a negative. expression/channel_list.rs of the original.
+#![tactic(auto)]
+
 ghost use Rattle.std.specs.Prelude.{◌≡◌};
 ghost use Rattle.coordinate.specs.Coordinate.{coordinate_of, written, pair_of, triple_of};
 ghost use Rattle.unsigned_coordinate.specs.Unsigned.{is_negative, unsigned_of, unsigned_pair_of, unsigned_triple_of};
@@ -6,19 +8,19 @@ ghost use Rattle.unsigned_coordinate.specs.Unsigned.{is_negative, unsigned_of, u
 use coordinate::{Coordinate, Pair, Triple};
 use error::ErrorCode;
 
-#[derive(Drop)]
+#[derive(Clone, Copy)]
 pub enum UnsignedCoordinate {
     Value(u64),
     Refused(ErrorCode),
 }
 
-#[derive(Drop)]
+#[derive(Clone, Copy)]
 pub enum UnsignedPair {
     Values(u64, u64),
     Refused(ErrorCode),
 }
 
-#[derive(Drop)]
+#[derive(Clone, Copy)]
 pub enum UnsignedTriple {
     Values(u64, u64, u64),
     Refused(ErrorCode),

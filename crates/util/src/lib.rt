@@ -1,4 +1,6 @@
 // Runs that the readers pass over. tokenizer/util.rs of the original.
+#![tactic(auto)]
+
 ghost use Rattle.std.specs.Prelude.{◌≡◌};
 ghost use Rattle.kind.specs.Class.{is_white_space, is_digit, is_small};
 ghost use Rattle.util.specs.Run.{run_end, sign_end, stands_at, least};

@@ -1,5 +1,7 @@
 // The C interface: what the readers answer, as numbers and words in lent slices. include/vinderaz.h says the same to a C programmer. Each
-// function returns 32 bits, so that no caller has to extend an answer.
+// function returns 32 bits, so that no caller has to extend an answer. `vinderaz_c` exports these under the same names.
+#![tactic(auto)]
+
 ghost use Rattle.std.specs.Prelude.{◌≡◌, pos};
 ghost use Rattle.mnemonic.specs.Mnemonic.{matches, compares};
 ghost use Rattle.record.specs.Word.{bit};
@@ -13,16 +15,14 @@ ghost use Rattle.vinderaz.specs.Steps.{token_step, open_step, channel_step, nume
 use error::ErrorCode;
 
 // 0 for an accepted table, or its fault.
-#[unsafe(no_mangle)]
-pub extern "C" fn vinderaz_check(nodes: &[u64], names: &[u8]) -> i32
+pub fn vinderaz_check(nodes: &[u64], names: &[u8]) -> i32
     ensures { Checks nodes.now names.now result }
 {
     unit_words::checked_code(table::check(nodes, names))
 }
 
 // Whether the word spells the name: 1, or else 0.
-#[unsafe(no_mangle)]
-pub extern "C" fn vinderaz_mnemonic_match(name: &[u8], word: &[u8]) -> i32
+pub fn vinderaz_mnemonic_match(name: &[u8], word: &[u8]) -> i32
     ensures { result ≡ pos (bit (matches name.now word.now)) }
 {
     if mnemonic::mnemonic_match(name, word) {
@@ -33,8 +33,7 @@ pub extern "C" fn vinderaz_mnemonic_match(name: &[u8], word: &[u8]) -> i32
 }
 
 // Whether the mnemonic is the name in its long or its short form, digits and all: 1, or else 0.
-#[unsafe(no_mangle)]
-pub extern "C" fn vinderaz_mnemonic_compare(name: &[u8], mnemonic: &[u8]) -> i32
+pub fn vinderaz_mnemonic_compare(name: &[u8], mnemonic: &[u8]) -> i32
     ensures { result ≡ pos (bit (compares name.now mnemonic.now)) }
 {
     if mnemonic::mnemonic_compare(name, mnemonic) {
@@ -45,8 +44,7 @@ pub extern "C" fn vinderaz_mnemonic_compare(name: &[u8], mnemonic: &[u8]) -> i32
 }
 
 // Resolves one header; its word goes to the first slot.
-#[unsafe(no_mangle)]
-pub extern "C" fn vinderaz_resolve(
+pub fn vinderaz_resolve(
     nodes: &[u64],
     names: &[u8],
     start: usize,
@@ -60,8 +58,7 @@ pub extern "C" fn vinderaz_resolve(
 }
 
 // As `vinderaz_resolve`, without the check of the table.
-#[unsafe(no_mangle)]
-pub extern "C" fn vinderaz_resolve_accepted(
+pub fn vinderaz_resolve_accepted(
     nodes: &[u64],
     names: &[u8],
     start: usize,
@@ -75,8 +72,7 @@ pub extern "C" fn vinderaz_resolve_accepted(
 }
 
 // Walks a message; its units go to the slots, and their number to the first word of `units`.
-#[unsafe(no_mangle)]
-pub extern "C" fn vinderaz_walk(
+pub fn vinderaz_walk(
     nodes: &[u64],
     names: &[u8],
     start: usize,
@@ -94,8 +90,7 @@ pub extern "C" fn vinderaz_walk(
 }
 
 // As `vinderaz_walk`, without the check of the table.
-#[unsafe(no_mangle)]
-pub extern "C" fn vinderaz_walk_accepted(
+pub fn vinderaz_walk_accepted(
     nodes: &[u64],
     names: &[u8],
     start: usize,
@@ -113,8 +108,7 @@ pub extern "C" fn vinderaz_walk_accepted(
 }
 
 // The next token of a message or of data alone.
-#[unsafe(no_mangle)]
-pub extern "C" fn vinderaz_token(text: &[u8], words: &mut [u64]) -> i32
+pub fn vinderaz_token(text: &[u8], words: &mut [u64]) -> i32
     ensures { record { code = result; words = words.new } ≡ token_step text.now words.old }
 {
     if words.len() < words::STEP_WORDS {
@@ -125,8 +119,7 @@ pub extern "C" fn vinderaz_token(text: &[u8], words: &mut [u64]) -> i32
 }
 
 // Opens a channel list.
-#[unsafe(no_mangle)]
-pub extern "C" fn vinderaz_channel_list(text: &[u8], words: &mut [u64]) -> i32
+pub fn vinderaz_channel_list(text: &[u8], words: &mut [u64]) -> i32
     ensures { record { code = result; words = words.new } ≡ open_step text.now words.old }
 {
     if words.len() < words::STEP_WORDS {
@@ -136,8 +129,7 @@ pub extern "C" fn vinderaz_channel_list(text: &[u8], words: &mut [u64]) -> i32
 }
 
 // The next item of a channel list.
-#[unsafe(no_mangle)]
-pub extern "C" fn vinderaz_channel(text: &[u8], words: &mut [u64]) -> i32
+pub fn vinderaz_channel(text: &[u8], words: &mut [u64]) -> i32
     ensures { record { code = result; words = words.new } ≡ channel_step text.now words.old }
 {
     if words.len() < words::STEP_WORDS {
@@ -148,8 +140,7 @@ pub extern "C" fn vinderaz_channel(text: &[u8], words: &mut [u64]) -> i32
 }
 
 // The next item of a numeric list.
-#[unsafe(no_mangle)]
-pub extern "C" fn vinderaz_numeric(text: &[u8], words: &mut [u64]) -> i32
+pub fn vinderaz_numeric(text: &[u8], words: &mut [u64]) -> i32
     ensures { record { code = result; words = words.new } ≡ numeric_step text.now words.old }
 {
     if words.len() < words::STEP_WORDS {
@@ -160,16 +151,14 @@ pub extern "C" fn vinderaz_numeric(text: &[u8], words: &mut [u64]) -> i32
 }
 
 // The coordinates of a channel spec, as many as there are words.
-#[unsafe(no_mangle)]
-pub extern "C" fn vinderaz_coordinates(spec: &[u8], words: &mut [i64]) -> i32
+pub fn vinderaz_coordinates(spec: &[u8], words: &mut [i64]) -> i32
     ensures { record { code = result; words = words.new } ≡ coordinates_in spec.now words.old }
 {
     coordinate_words::coordinates(spec, words)
 }
 
 // As `vinderaz_coordinates`, and refuses a negative coordinate with -224.
-#[unsafe(no_mangle)]
-pub extern "C" fn vinderaz_unsigned_coordinates(spec: &[u8], words: &mut [u64]) -> i32
+pub fn vinderaz_unsigned_coordinates(spec: &[u8], words: &mut [u64]) -> i32
     ensures { record { code = result; words = words.new } ≡ unsigned_in spec.now words.old }
 {
     coordinate_words::unsigned_coordinates(spec, words)

@@ -1,5 +1,7 @@
 // The answers of the steps of messages and lists, left as numbers in eight lent words; and the states that the steps begin with, in the
 // same words.
+#![tactic(auto)]
+
 ghost use Rattle.std.specs.Prelude.{◌≡◌, get_or};
 ghost use Rattle.record.specs.Word.{bit};
 ghost use Rattle.words.specs.Outcome.{Outcome};
@@ -15,7 +17,7 @@ use token::{Token, View};
 pub const STEP_WORDS: usize = 8;
 
 // What a step says: its number, the dimension, the kind and the views.
-#[derive(Drop)]
+#[derive(Clone, Copy)]
 struct Said {
     code: i32,
     dimension: u64,

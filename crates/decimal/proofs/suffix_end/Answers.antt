@@ -1,0 +1,14 @@
+use Rattle.item.proofs.Words.{among}
+use Rattle.decimal.proofs.suffix_end.Goals as goal
+
+pub bounds-s-end : goal.bounds-s-end
+bounds-s-end c = search among
+
+pub returns-then-not-in_suffix : goal.returns-then-not-in_suffix
+returns-then-not-in_suffix c = search among
+
+pub loop-end-preserved : goal.loop-end-preserved
+loop-end-preserved c = search among
+
+pub returns : goal.returns
+returns c = search among

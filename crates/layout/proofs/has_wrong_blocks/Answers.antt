@@ -1,0 +1,20 @@
+use Rattle.layout.proofs.Blocks.{blocks_laws}
+use Rattle.layout.proofs.has_wrong_blocks.Goals as goal
+
+pub loop-k-init : goal.loop-k-init
+loop-k-init c = search blocks_laws
+
+pub returns-then-block-behind : goal.returns-then-block-behind
+returns-then-block-behind c = search blocks_laws
+
+pub returns-then-block-k : goal.returns-then-block-k
+returns-then-block-k c = search blocks_laws
+
+pub loop-k-preserved-then-is_branch : goal.loop-k-preserved-then-is_branch
+loop-k-preserved-then-is_branch c = search blocks_laws
+
+pub loop-k-preserved : goal.loop-k-preserved
+loop-k-preserved c = search blocks_laws
+
+pub returns : goal.returns
+returns c = search blocks_laws

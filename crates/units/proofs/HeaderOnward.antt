@@ -77,7 +77,7 @@ unfolding seen_at
 genuine_at s st = go (step s st).answer refl
   where
     go : (a : Answer) → (step s st).answer ≡ a → Genuine s (step s st).state (ahead_of a)
-    go (Answer.Token t) e = genuine_token s _ t
+    go (Answer.Token t) e = genuine_token s (step s st).state t
     go Answer.End e = at_end (less_or_not (step s st).state.place (length s))
       where
         at_end : ((step s st).state.place < length s) ⊎ (length s ≤ (step s st).state.place) → length s ≤ (step s st).state.place

@@ -1,7 +1,0 @@
-use Rattle.report.proofs.Steps.{laws}
-use Rattle.report.proofs.token_text.taken_part as f
-
-pub taken_part_spec : {M : Type 1} → f.Statement.statement M
-taken_part_spec =
-    f.Tie.close (f.Tie.spec (λ c κs. search laws) (λ c κs. search laws) (λ c κs. search laws) (λ c. search laws)
-    (λ c κs. search laws) (λ c. search laws))

@@ -119,10 +119,10 @@ heard {s = s} {seen = seen} ok (asked e g i) (refused m f) = stop_refused (asks 
 heard ok (word e p x) (refused m f) = no_refusal e f
 heard {s = s} {seen = seen} ok (stop e g) (said m f k r) = no_word f (stops s seen e)
 heard {s = s} {seen = seen} ok (asked e g i) (said m f k r) = no_word f (asks s seen e)
-heard {t} {names} {s} {end} {place} {q = q} ok (word {w = w} e p x) (said {w = u} m f k r) =
+heard {t} {names} {s} {end} {place} {q = q} ok (word {w = w} {words = words} e p x) (said {w = u} m f k r) =
     let c = (picked k).0.child in
     let z : part_of s u ≡ w = cc in
-    by_word t names q end place ok c (rw z at (sym (says t names ok c (part_of s u)) ∙ (picked k).1)) (heard ok (hears_on e f x) r)
+    by_word t names q end place ok c (rw z at (sym (says t names ok c (part_of s u)) ∙ (picked k).1)) (heard {words = words} ok (hears_on e f x) r)
 heard {s = s} {seen = seen} ok (stop e g) (unsaid m f k d r) = no_word f (stops s seen e)
 heard {s = s} {seen = seen} ok (asked e g i) (unsaid m f k d r) = no_word f (asks s seen e)
 heard {t} {names} {s} {end} {place} {q = q} ok (word {w = w} e p x) (unsaid {w = u} {st = at} m f k d r) =

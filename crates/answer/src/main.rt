@@ -176,7 +176,7 @@ fn flush(out: &[u8], sink: Sink) {
     if out.len() < used {
         return;
     }
-    // Nothing is left to tell of a write that fails.
+    // The program ends here: a write that fails changes nothing more.
     let _ = sink.to.write_all(&out[..used]);
 }
 

@@ -21,12 +21,12 @@ fn main(rt: HostRuntime) {
     let mut text = [0u8; 4096];
     let mut slots = [0u64; 2048];
     if !check(rt, &mut text, &mut slots) {
-        tell(rt, b"commandcheck: standard output can not be written\n");
+        put_error(rt, b"commandcheck: standard output can not be written\n");
     }
 }
 
 // Writes to standard error, and says whether that went well.
-fn tell(rt: HostRuntime, line: &[u8]) -> bool {
+fn put_error(rt: HostRuntime, line: &[u8]) -> bool {
     rt.stderr().write_all(line).is_ok()
 }
 
@@ -44,7 +44,7 @@ fn check(rt: HostRuntime, text: &mut Text, slots: &mut Slots) -> bool {
     match read_text(rt.stdin(), text) {
         Input::Text(n) => put_message(out, text, n, slots),
         Input::TooLong => put_too_long(out),
-        Input::Failed => tell(rt, b"commandcheck: standard input can not be read\n"),
+        Input::Failed => put_error(rt, b"commandcheck: standard input can not be read\n"),
     }
 }
 

@@ -111,16 +111,16 @@ static inline const char *vinderaz_text(int32_t number) {
    has its own numbers. What checks a table takes more for a default branch that is a child of a default branch, and again for one that is a
    child of that: the most is 4,094 times. A table from elsewhere can be bounded before it is checked. */
 #define VINDERAZ_STACK_CHECK 704
-#define VINDERAZ_STACK_RESOLVE 1952
+#define VINDERAZ_STACK_RESOLVE 2040
 #define VINDERAZ_STACK_WALK 2296
 #define VINDERAZ_STACK_DEFAULT 200 /* check, resolve and walk: for each default branch that is a child of another */
-#define VINDERAZ_STACK_RESOLVE_ACCEPTED 1936
+#define VINDERAZ_STACK_RESOLVE_ACCEPTED 1976
 #define VINDERAZ_STACK_WALK_ACCEPTED 2272
 #define VINDERAZ_STACK_MNEMONIC_MATCH 368
 #define VINDERAZ_STACK_MNEMONIC_COMPARE 80
-#define VINDERAZ_STACK_TOKEN 1424
+#define VINDERAZ_STACK_TOKEN 1456
 #define VINDERAZ_STACK_CHANNEL_LIST 64
-#define VINDERAZ_STACK_CHANNEL 520
+#define VINDERAZ_STACK_CHANNEL 536
 #define VINDERAZ_STACK_NUMERIC 172
 #define VINDERAZ_STACK_COORDINATES 552
 #define VINDERAZ_STACK_UNSIGNED_COORDINATES 520

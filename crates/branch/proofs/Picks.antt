@@ -1,4 +1,5 @@
 -- Laws of picks among the nodes of a block, as the code meets them; and what they are among the children of a branch.
+use Rattle.std.specs.Prelude.{Option, Some, None}
 use Prim.Native.Nat.{ℕ, ◌+◌, ◌-◌, ◌≤◌, ◌<◌}
 use mathlib.Core.Path.{◌≡◌, refl, sym, ◌∙◌}
 use mathlib.Core.Logic.{◌⊎◌, inl, inr}
@@ -17,7 +18,6 @@ use Rattle.node.specs.Word.{is_default}
 use Rattle.node.specs.Tree.{branch, first, count}
 use Rattle.branch.specs.Children.{Below, unsaid_in, Picks, first_one, not_one, PicksIn, first_in, none_in}
 use Rattle.branch.specs.Block.{block, block_of, children_of, next_child}
-use Rattle.branch.specs.declared.Pick.{Pick}
 use Rattle.branch.proofs.Blocks.{next_in'}
 
 -- the nodes from one index up to another, and not the one there, are the children of b
@@ -72,7 +72,7 @@ module _ (t : List ℕ) (from to e : ℕ) where
     default_less' l i n = omega (arith, n, next_in' t k (default_inside' l))
 
     module _ (inv : Passed (unsaid_in t) from k) where
-      pub default_over' : e ≤ k → PicksIn (unsaid_in t) from to Pick.None
+      pub default_over' : e ≤ k → PicksIn (unsaid_in t) from to None
       default_over' l = none_in (λ j low high. go j (less_or_not j k) (not_least to (length t) k (omega (arith, h))) low high)
         where
           go : (j : ℕ) → (j < k) ⊎ (k ≤ j) → (to ≤ k) ⊎ (length t ≤ k) → from ≤ j → j < to → unsaid_in t j ≡ false
@@ -81,7 +81,7 @@ module _ (t : List ℕ) (from to e : ℕ) where
           go j (inr x) (inr y) low high = not_past t j (omega arith)
 
       module _ (l : k < e) (r : Bool) (q : r ≡ is_default (get_or t k 0)) where
-        pub default_found' : r ≡ true → PicksIn (unsaid_in t) from to (Pick.Child k)
+        pub default_found' : r ≡ true → PicksIn (unsaid_in t) from to (Some k)
         unfolding unsaid_in
         default_found' y = first_in inv.low (omega (arith, h, (least_le to (length t)).0)) (sym q ∙ y) inv.all
 
@@ -94,18 +94,18 @@ pub ruleset default_laws = (rules, default_begins', default_inside', default_les
 
 -- a pick of a block is one of the branch whose children the block has
 module _ (t : List ℕ) (b from to : ℕ) (c : Covers t b from to) (p : ℕ → Bool) where
-  pub picks_covered : (x : Pick) → PicksIn p from to x → Picks t b p x
-  picks_covered (Pick.Child k) (first_in low high e f) = first_one (c.only k low high) e (λ j x l. f j (c.all j x).0 l)
-  picks_covered Pick.None (none_in f) = not_one (λ j x. f j (c.all j x).0 (c.all j x).1)
+  pub picks_covered : (x : Option ℕ) → PicksIn p from to x → Picks t b p x
+  picks_covered (Some k) (first_in low high e f) = first_one (c.only k low high) e (λ j x l. f j (c.all j x).0 l)
+  picks_covered None (none_in f) = not_one (λ j x. f j (c.all j x).0 (c.all j x).1)
 
-pub picks_children : (t : List ℕ) (b : ℕ) (p : ℕ → Bool) (x : Pick) → PicksIn p (children_of t b).from (children_of t b).to x → Picks t b p x
+pub picks_children : (t : List ℕ) (b : ℕ) (p : ℕ → Bool) (x : Option ℕ) → PicksIn p (children_of t b).from (children_of t b).to x → Picks t b p x
 picks_children t b p = picks_covered t b (children_of t b).from (children_of t b).to (covers t b) p
 
 -- what was picked is a child, in the table and nearer to its end than its branch
-pub picked : {t : List ℕ} {b k : ℕ} {q : ℕ → Bool} → Picks t b q (Pick.Child k) → Below t b k
+pub picked : {t : List ℕ} {b k : ℕ} {q : ℕ → Bool} → Picks t b q (Some k) → Below t b k
 picked (first_one x e f) = x
 
-pub deeper : {t : List ℕ} {b k : ℕ} {q : ℕ → Bool} → Picks t b q (Pick.Child k) → (k < length t) × (length t - k < length t - b)
+pub deeper : {t : List ℕ} {b k : ℕ} {q : ℕ → Bool} → Picks t b q (Some k) → (k < length t) × (length t - k < length t - b)
 deeper x =
     let y = picked x in
     let l = below_in y in

@@ -8,13 +8,6 @@ ghost use Rattle.node.specs.Tree.{branch, Child};
 ghost use Rattle.branch.specs.Children.{unsaid_in, PicksIn};
 ghost use Rattle.branch.specs.Block.{block_of, children_of, next_child};
 
-// The child that was looked for.
-#[derive(Clone, Copy)]
-pub enum Pick {
-    Child(usize),
-    None,
-}
-
 // The children of a branch: the nodes from one index up to another, and not the one there.
 #[derive(Clone, Copy)]
 pub struct Block {
@@ -74,19 +67,19 @@ pub fn next_child(nodes: &[u64], k: usize) -> usize
     k
 }
 
-// The first default node of a block.
-pub fn default_in(nodes: &[u64], from: usize, to: usize) -> Pick
+// The first default node of a block. No index is counted: `next_child` alone knows which child is next.
+pub fn default_in(nodes: &[u64], from: usize, to: usize) -> Option<usize>
     ensures { PicksIn (unsaid_in nodes.now) from to result }
 {
     let end = util::least(to, nodes.len());
     let mut d = from;
     while d < end {
         if node::is_default(nodes[d]) {
-            return Pick::Child(d);
+            return Some(d);
         }
         d = next_child(nodes, d);
     }
-    Pick::None
+    None
 }
 
 // Whether a node is a child of a branch.

@@ -1,4 +1,5 @@
 -- Laws of the step through a channel list, as the code meets them.
+use Rattle.std.specs.Prelude.{Result, Ok, Err, Some, None}
 use Prim.Native.Nat.{ℕ, ◌+◌, ◌*◌, ◌^◌, ◌≤◌, ◌<◌}
 use mathlib.Core.Path.{◌≡◌, refl, sym, ap, ◌∙◌}
 use mathlib.Core.Logic.{◌⊎◌, inl, inr, ⊎_elim}
@@ -17,7 +18,6 @@ use Rattle.kind.specs.Class.{is_digit, is_sign, is_quote}
 use Rattle.kind.proofs.Tests.{or_right}
 use Rattle.util.specs.Run.{stands_at}
 use Rattle.token.specs.{Token.view_in, View.view_of, declared.View.View, declared.Token.Token, declared.Token.TheVariants.StringProgramData}
-use Rattle.item.specs.declared.Read.{Read}
 use Rattle.forms.proofs.ItemAccepted.{only_then, only_else, only_followed}
 use Rattle.enclosed.specs.String.{string_end, closed, string_data}
 use Rattle.channel_spec.specs.{Spec.spec_at, Spec.is_empty, declared.ChannelSpec.ChannelSpec}
@@ -25,15 +25,14 @@ use Rattle.channel_list.specs.List.{state_of, opened, taken, refusal, ended, beg
 use Rattle.channel_list.specs.{declared.State.State, declared.Step.Step, declared.Front.Front}
 use Rattle.channel_list.specs.declared.Token.TheVariants as item
 use Rattle.channel_list.specs.declared.Answer.TheVariants as answer
-use Rattle.channel_list.specs.declared.Opened.TheVariants as opens
 use Rattle.channel_list.specs.declared.Token as items
 
 module _ (s : List ℕ) (b : Bool) (eb : b ≡ stands_at 64 s 0) where
-  pub not_one' : not b ≡ true → opens.NotOne ≡ opened s
+  pub not_one' : not b ≡ true → None ≡ opened s
   unfolding opened
   not_one' q = rw (← eb, not-true b q)
 
-  pub opened' : not b ≡ false → opens.List (state_of 1 true) ≡ opened s
+  pub opened' : not b ≡ false → Some (state_of 1 true) ≡ opened s
   unfolding opened
   opened' q = rw (← eb, not-false b q)
 
@@ -90,7 +89,7 @@ module _ (s : List ℕ) (st : State) (at : ℕ) (x : Step) where
 pub ruleset ranges = (rules, range_empty', range_unequal', range', spec_last', spec_alone', spec_colon')
 
 -- a string that was read ends before a quote, inside the text
-module _ (q : ℕ) (s : List ℕ) (at : ℕ) (t : Token) (next : ℕ) (e : string_data q s at ≡ Read.Token t next) where
+module _ (q : ℕ) (s : List ℕ) (at : ℕ) (t : Token) (next : ℕ) (e : string_data q s at ≡ Ok (t, next)) where
   abbrev end : ℕ
   end = string_end q s at
 
@@ -101,12 +100,12 @@ module _ (q : ℕ) (s : List ℕ) (at : ℕ) (t : Token) (next : ℕ) (e : strin
       let d = only_then t next (eqb (get_or s end 0) q) _ InvalidCharacter c.1 in
       (sym (only_followed t next (StringProgramData (view_of at end)) SuffixNotAllowed s (end + 1) d.1), leb-false (length s) end c.0)
 
-module _ (q : ℕ) (s : List ℕ) (st : State) (at : ℕ) (r : Read) (er : r ≡ string_data q s at) where
-  pub path_refused' : (e : ErrorCode) → r ≡ Read.Refused e → (x : Step) → x ≡ refusal s st e → x ≡ path_at q s st at
+module _ (q : ℕ) (s : List ℕ) (st : State) (at : ℕ) (r : Result (Token × ℕ) ErrorCode) (er : r ≡ string_data q s at) where
+  pub path_refused' : (e : ErrorCode) → r ≡ Err e → (x : Step) → x ≡ refusal s st e → x ≡ path_at q s st at
   unfolding path_at path_of
   path_refused' e k x ex = ex ∙ rw (← er, k)
 
-  module _ (t : Token) (next : ℕ) (k : r ≡ Read.Token t next) (v : View) (ev : v ≡ view_in t) where
+  module _ (t : Token) (next : ℕ) (k : r ≡ Ok (t, next)) (v : View) (ev : v ≡ view_in t) where
     shown : v ≡ view_of at (string_end q s at)
     shown = ev ∙ ap view_in (string_token q s at t next (sym er ∙ k)).0
 

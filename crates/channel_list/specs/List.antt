@@ -1,13 +1,11 @@
 -- Channel lists, SCPI-99 8.3.2: what stands at a place of one, and where the next step begins.
-use Rattle.std.specs.Prelude.{ℕ, ◌+◌, ◌<◌, List, Bool, true, false, cond, not, ◌&&◌, ◌||◌, eqb, leb, length, get_or}
+use Rattle.std.specs.Prelude.{ℕ, ◌+◌, ◌<◌, List, Bool, true, false, cond, not, ◌&&◌, ◌||◌, eqb, leb, length, get_or, Result, Ok, Err, Option, Some, None}
 use Prim.Native.Char.{code}
 use Rattle.error.specs.declared.ErrorCode.{ErrorCode}
 use Rattle.error.specs.declared.ErrorCode.TheVariants.{InvalidExpression}
 use Rattle.kind.specs.Class.{is, is_digit, is_sign, is_quote}
 use Rattle.util.specs.Run.{stands_at}
 use Rattle.token.specs.Token.{view_in}
-use Rattle.item.specs.declared.Read.{Read}
-use Rattle.item.specs.declared.Read.TheVariants as read
 use Rattle.enclosed.specs.String.{string_data}
 use Rattle.channel_spec.specs.Spec.{spec_at, is_empty}
 use Rattle.channel_spec.specs.declared.ChannelSpec.{ChannelSpec}
@@ -18,16 +16,15 @@ use Rattle.channel_list.specs.declared.Answer.TheVariants as answer
 use Rattle.channel_list.specs.declared.Step.{Step}
 use Rattle.channel_list.specs.declared.Front.{Front}
 use Rattle.channel_list.specs.declared.Front.TheVariants as front
-use Rattle.channel_list.specs.declared.Opened.{Opened}
-use Rattle.channel_list.specs.declared.Opened.TheVariants as opens
+use Rattle.token.specs.declared.Token.{Token as DataToken}
 
 -- a place, and whether no item has been read yet
 abbrev pub state_of : ℕ → Bool → State
 state_of place first = record { place = place; first = first }
 
 -- SCPI-99 8.3.2: a channel list begins with `@`; any other text is not one
-unfoldable pub opened : List ℕ → Opened
-opened s = cond (stands_at (code "@") s 0) (opens.List (state_of 1 true)) opens.NotOne
+unfoldable pub opened : List ℕ → Option State
+opened s = cond (stands_at (code "@") s 0) (Some (state_of 1 true)) None
 
 -- an item, and the place behind it
 unfoldable pub taken : Token → ℕ → Step
@@ -67,9 +64,9 @@ unfoldable pub specs_at : List ℕ → State → ℕ → Step
 specs_at s st at = specs_from s st (spec_at s at)
 
 -- what was read as a string, as a path name: the place behind it is that behind its closing quote
-unfoldable pub path_of : List ℕ → State → Read → Step
-path_of s st (read.Token t next) = taken (item.PathName (view_in t)) ((view_in t).end + 1)
-path_of s st (read.Refused e) = refusal s st e
+unfoldable pub path_of : List ℕ → State → Result (DataToken × ℕ) ErrorCode → Step
+path_of s st (Ok (t, next)) = taken (item.PathName (view_in t)) ((view_in t).end + 1)
+path_of s st (Err e) = refusal s st e
 
 -- SCPI-99 8.3.2: a path name is a string (IEEE 488.2 7.7.5) with its refusals, from the place behind its opening quote. White
 -- space and then the end, `,` or `;` must follow, as behind any string, but none of it is passed.

@@ -6,7 +6,6 @@ ghost use Rattle.channel_list.specs.List.{opened, taken, refusal, begins_spec, r
 
 use channel_spec::ChannelSpec;
 use error::ErrorCode;
-use item::Read;
 use token::View;
 
 #[derive(Clone, Copy)]
@@ -26,6 +25,7 @@ pub struct State {
     pub first: bool,
 }
 
+// What a step says, in the form that the scope names for the Option of a Result of the original.
 #[derive(Clone, Copy)]
 pub enum Answer {
     Token(Token),
@@ -40,14 +40,7 @@ pub struct Step {
     pub state: State,
 }
 
-// The front of a channel list, or that the text is not one.
-#[derive(Clone, Copy)]
-pub enum Opened {
-    List(State),
-    NotOne,
-}
-
-// Where the next item of a list begins, or what stands there in its place.
+// Where the next item of a list begins, or what stands there in its place: three cases, and neither an Option nor a Result.
 #[derive(Clone, Copy)]
 enum Front {
     Item(usize),
@@ -55,14 +48,14 @@ enum Front {
     Refused,
 }
 
-// A text is a channel list where it begins with `@`.
-pub fn new(s: &[u8]) -> Opened
+// The front of a channel list; a text is one where it begins with `@`.
+pub fn new(s: &[u8]) -> Option<State>
     ensures { result ≡ opened s.now }
 {
     if !util::stands(s, 0, b'@') {
-        return Opened::NotOne;
+        return None;
     }
-    Opened::List(State {
+    Some(State {
         place: 1,
         first: true,
     })
@@ -83,10 +76,7 @@ pub fn next(s: &[u8], state: State) -> Step
         Front::Item(from) => item(s, from, state),
         Front::End(place) => Step {
             answer: Answer::End,
-            state: State {
-                place,
-                first: state.first,
-            },
+            state: State { place, ..state },
         },
         Front::Refused => refused(s, state, ErrorCode::InvalidExpression),
     }
@@ -170,11 +160,11 @@ fn path(s: &[u8], at: usize, state: State, quote: u8) -> Step
     ensures { result ≡ path_at quote s.now state at }
 {
     match enclosed::read_string_data(s, at, quote) {
-        Read::Token { token, next: _ } => {
+        Ok((token, _)) => {
             let view = token.view();
             taken(Token::PathName(view), view.end + 1)
         }
-        Read::Refused(e) => refused(s, state, e),
+        Err(e) => refused(s, state, e),
     }
 }
 
@@ -199,7 +189,7 @@ fn refused(s: &[u8], state: State, e: ErrorCode) -> Step
         answer: Answer::Refused(e),
         state: State {
             place: s.len(),
-            first: state.first,
+            ..state
         },
     }
 }

@@ -1,5 +1,6 @@
 -- Laws of where a spec ends, of its dimension, and of the walk through its items, as the code meets them.
-use Prim.Native.Nat.{ℕ, suc, ◌+◌, ◌-◌, ◌*◌, ◌^◌, ◌≤◌, ◌<◌}
+use Rattle.std.specs.Prelude.{Result, Ok, Err}
+use Prim.Native.Nat.{ℕ, suc, ◌+◌, ◌-◌, ◌*◌, ◌^◌, ◌≤◌, ◌<◌, max}
 use mathlib.Core.Path.{◌≡◌, refl, sym, ap, ◌∙◌}
 use mathlib.Core.List.{List, []}
 use mathlib.Core.Bool.{Bool, true, false, not, ◌&&◌}
@@ -15,16 +16,17 @@ use mir.Val.{Fits}
 use Rattle.kind.specs.Class.{is_digit, is_sign}
 use Rattle.kind.proofs.Tests.{by_test, less_or_not}
 use Rattle.util.specs.Run.{run, run_end, stands_at}
-use Rattle.util.proofs.Runs.{run_past, run_stop, run_more, run_from}
+use Rattle.util.proofs.Runs.{ends_at, run_past, run_stop, run_more, run_from}
 use Rattle.token.specs.View.{view_of, part_of}
 use Rattle.forms.proofs.ItemAccepted.{part_shown, run_most}
 use Rattle.channel_spec.specs.Spec.{in_spec, bang, bangs, dimension_of, spec_to, spec_at}
 use lib.IntN.{ℤ}
 use Rattle.error.specs.declared.ErrorCode.TheVariants.{ExpressionError}
-use Rattle.integer.specs.{Number.signed_at, declared.Signed.Signed}
+use Rattle.integer.specs.{Number.signed_at}
 use Rattle.channel_spec.specs.Item.{refusal, bang_end, item_step, item_of, item_at}
 use Rattle.channel_spec.specs.declared.Item.TheVariants as item
 use Rattle.channel_spec.specs.declared.Step.{Step}
+use Rattle.integer.specs.declared.NumberError.{NumberError}
 
 -- what may stand in a spec
 module _ (b : ℕ) (d : Bool) (ed : d ≡ is_digit b) where
@@ -100,8 +102,11 @@ module _ (s : List ℕ) (at end dimension : ℕ)
       let f : in_spec (get_or s end 0) ≡ false = sym er ∙ not-true r q in
       found (runs ∙ run_stop in_spec s end h f) (front_stop s end h f)
 
-  pub spec_past' : length s ≤ end → record { view = view_of at end; dimension = dimension } ≡ spec_at s at
-  spec_past' h = found (runs ∙ run_past in_spec s end h) (front_past s end h)
+  pub spec_past' : (m : ℕ) → m ≡ max at (length s) → (at ≤ length s → end ≤ length s) → length s ≤ end
+      → record { view = view_of at m; dimension = dimension } ≡ spec_at s at
+  spec_past' m em f h =
+      let e : m ≡ end = ends_at in_spec s end at m em f h runs in
+      rw e (found (runs ∙ run_past in_spec s end h) (front_past s end h))
 
   module _ (r : Bool) (h : end < length s) (er : r ≡ in_spec (get_or s end 0)) (q : not r ≡ false) where
     more : in_spec (get_or s end 0) ≡ true
@@ -130,18 +135,15 @@ module _ (end dimension k b : ℕ) (most : dimension ≤ end + 1) (ek : k ≡ ba
 
 pub ruleset laws = (rules, digit_in', sign_in', bang_in', bang_there', bang_none', spec_stop', spec_past', runs_on', counts_on', dimension_fits', dimension_on')
 
-module _ (s : List ℕ) (at : ℕ) (r : Signed) (er : r ≡ signed_at s at) where
-  pub value' : (v : ℤ) (end : ℕ) → r ≡ Signed.Value v end → record { item = item.Value v; place = end } ≡ item_of s at
+module _ (s : List ℕ) (at : ℕ) (r : Result (ℤ × ℕ) NumberError) (er : r ≡ signed_at s at) where
+  pub value' : (v : ℤ) (end : ℕ) → r ≡ Ok (v, end) → record { item = item.Value v; place = end } ≡ item_of s at
   unfolding item_of item_step
   value' v end q = rw (← er, q)
 
-  pub no_digit' : r ≡ Signed.NoDigit → (x : Step) → x ≡ refusal s → x ≡ item_of s at
+  pub no_value' : (e : NumberError) → r ≡ Err e → (x : Step) → x ≡ refusal s → x ≡ item_of s at
   unfolding item_of item_step
-  no_digit' q x ex = ex ∙ rw (← er, q)
-
-  pub too_large' : r ≡ Signed.TooLarge → (x : Step) → x ≡ refusal s → x ≡ item_of s at
-  unfolding item_of item_step
-  too_large' q x ex = ex ∙ rw (← er, q)
+  no_value' NumberError.NoDigit q x ex = ex ∙ rw (← er, q)
+  no_value' NumberError.TooLarge q x ex = ex ∙ rw (← er, q)
 
 pub refusal_is' : (s : List ℕ) → record { item = item.Refused ExpressionError; place = length s } ≡ refusal s
 unfolding refusal
@@ -161,4 +163,4 @@ module _ (s : List ℕ) (at : ℕ) where
     unfolding item_at bang_end stands_at
     plain' n ex = ex ∙ rw (lt-leb (length s) at h, lt-ltb at (length s) h, ne_eqb (get_or s at 0) 33 n)
 
-pub ruleset walks = (rules, refusal_is', value', no_digit', too_large', end', behind_bang', plain')
+pub ruleset walks = (rules, refusal_is', value', no_value', end', behind_bang', plain')

@@ -1,13 +1,12 @@
 -- The items of a channel spec, one after the other. The text is the spec's own part of the list.
-use Rattle.std.specs.Prelude.{ℕ, ◌+◌, List, cond, leb, length}
+use Rattle.std.specs.Prelude.{ℕ, ◌+◌, List, cond, leb, length, ℤ, Result, Ok, Err}
 use Prim.Native.Char.{code}
 use Rattle.error.specs.declared.ErrorCode.TheVariants.{ExpressionError}
 use Rattle.util.specs.Run.{stands_at}
 use Rattle.integer.specs.Number.{signed_at}
-use Rattle.integer.specs.declared.Signed.{Signed}
-use Rattle.integer.specs.declared.Signed.TheVariants as signed
 use Rattle.channel_spec.specs.declared.Item.TheVariants as item
 use Rattle.channel_spec.specs.declared.Step.{Step}
+use Rattle.integer.specs.declared.NumberError.{NumberError}
 
 -- the place behind a `!`, where one stands at the place
 unfoldable pub bang_end : List ℕ → ℕ → ℕ
@@ -18,10 +17,10 @@ unfoldable pub refusal : List ℕ → Step
 refusal s = record { item = item.Refused ExpressionError; place = length s }
 
 -- a number of 64 bits and the place behind it
-unfoldable pub item_step : List ℕ → Signed → Step
-item_step s (signed.Value v end) = record { item = item.Value v; place = end }
-item_step s signed.NoDigit = refusal s
-item_step s signed.TooLarge = refusal s
+unfoldable pub item_step : List ℕ → Result (ℤ × ℕ) NumberError → Step
+item_step s (Ok (v, end)) = record { item = item.Value v; place = end }
+item_step s (Err NumberError.NoDigit) = refusal s
+item_step s (Err NumberError.TooLarge) = refusal s
 
 -- an optional sign and digits, from a place on
 unfoldable pub item_of : List ℕ → ℕ → Step

@@ -6,7 +6,6 @@ ghost use Rattle.channel_spec.specs.Spec.{in_spec, bang, spec_at};
 ghost use Rattle.channel_spec.specs.Item.{refusal, item_of, item_at};
 
 use error::ErrorCode;
-use integer::Signed;
 use token::View;
 
 // A channel spec: its part of the text, and its dimension.
@@ -16,7 +15,7 @@ pub struct ChannelSpec {
     pub dimension: usize,
 }
 
-// An item of a spec's walk.
+// An item of a spec's walk, in the form that the scope names for the Option of a Result of the original.
 #[derive(Clone, Copy)]
 pub enum Item {
     Value(i64),
@@ -35,9 +34,8 @@ pub struct Step {
 pub fn read_channel_spec(s: &[u8], at: usize) -> ChannelSpec
     ensures { result ≡ spec_at s.now at }
 {
-    let mut end = at;
     let mut dimension = 1;
-    while end < s.len() {
+    for end in at..s.len() {
         let b = s[end];
         if !in_spec(b) {
             return ChannelSpec {
@@ -46,10 +44,12 @@ pub fn read_channel_spec(s: &[u8], at: usize) -> ChannelSpec
             };
         }
         dimension += bang(b);
-        end += 1;
     }
     ChannelSpec {
-        view: View { start: at, end },
+        view: View {
+            start: at,
+            end: at.max(s.len()),
+        },
         dimension,
     }
 }
@@ -95,12 +95,11 @@ fn read_item(spec: &[u8], at: usize) -> Step
     ensures { result ≡ item_of spec.now at }
 {
     match integer::read_signed(spec, at) {
-        Signed::Value { value, end } => Step {
+        Ok((value, end)) => Step {
             item: Item::Value(value),
             place: end,
         },
-        Signed::NoDigit => refused(spec),
-        Signed::TooLarge => refused(spec),
+        Err(_) => refused(spec),
     }
 }
 

@@ -3,13 +3,12 @@
 
 mod nodes;
 
-ghost use Rattle.std.specs.Prelude.{◌≤◌, length};
-ghost use Rattle.commandcheck.specs.Input.{Within};
+ghost use Rattle.std.specs.Prelude.{◌≤◌, length, IfOk};
 
 use error::ErrorCode;
-use message::Walked;
 use nodes::{names, nodes};
 use report::Told;
+use std::io;
 use std::io::{Print, Read, Stdin, Stdout};
 
 // The buffer of a message, and the slots of its records.
@@ -20,81 +19,92 @@ type Slots = [u64; 2048];
 fn main(rt: HostRuntime) {
     let mut text = [0u8; 4096];
     let mut slots = [0u64; 2048];
-    if !check(rt, &mut text, &mut slots) {
-        put_error(rt, b"commandcheck: standard output can not be written\n");
+    if check(rt, &mut text, &mut slots).is_err() {
+        // The program ends here, also where this can not be written.
+        let _ = put_error(rt, b"commandcheck: standard output can not be written\n");
     }
 }
 
-// Writes to standard error, and says whether that went well.
-fn put_error(rt: HostRuntime, line: &[u8]) -> bool {
-    rt.stderr().write_all(line).is_ok()
+// Writes to standard error.
+fn put_error(rt: HostRuntime, line: &[u8]) -> io::Result<()> {
+    rt.stderr().write_all(line)
 }
 
-// What standard input holds: a message of so many bytes, one that is too long, or nothing that can be read.
+// Fails where a write does.
+fn check(rt: HostRuntime, text: &mut Text, slots: &mut Slots) -> io::Result<()> {
+    let out = rt.stdout();
+    match read_text(rt.stdin(), text) {
+        Ok(n) => put_message(out, &text[..n], slots),
+        Err(InputError::TooLong) => put_too_long(out),
+        Err(InputError::Failed) => {
+            put_error(rt, b"commandcheck: standard input can not be read\n")
+        }
+    }
+}
+
+// Why standard input gives no message.
 #[derive(Clone, Copy)]
-enum Input {
-    Text(usize),
+enum InputError {
     TooLong,
     Failed,
 }
 
-// Says whether every write went well.
-fn check(rt: HostRuntime, text: &mut Text, slots: &mut Slots) -> bool {
-    let out = rt.stdout();
-    match read_text(rt.stdin(), text) {
-        Input::Text(n) => put_message(out, text, n, slots),
-        Input::TooLong => put_too_long(out),
-        Input::Failed => put_error(rt, b"commandcheck: standard input can not be read\n"),
+impl From<io::Error> for InputError {
+    fn from(_e: io::Error) -> InputError {
+        InputError::Failed
     }
 }
 
-// Reads until the input ends or the buffer is full.
-fn read_text(from: Stdin, text: &mut [u8]) -> Input
-    ensures { Within (length text.new) result }
+// Reads until the input ends or the buffer is full, and answers how many bytes the message has.
+fn read_text(mut input: Stdin, text: &mut [u8]) -> Result<usize, InputError>
+    ensures { IfOk result (λ n. n ≤ length text.new) }
 {
-    let mut input = from;
     let mut held = 0;
     while held < text.len() {
-        match input.read(&mut text[held..]) {
-            Err(_) => return Input::Failed,
-            Ok(0) => return Input::Text(held),
-            Ok(n) => held += n,
+        let n = input.read(&mut text[held..])?;
+        if n == 0 {
+            return Ok(held);
         }
+        held += n;
     }
-    read_beyond(input, held)
+    end(input)?;
+    Ok(held)
 }
 
 // Behind a full buffer the input ends, or is too long.
-fn read_beyond(from: Stdin, held: usize) -> Input
-    ensures { Within held result }
-{
-    let mut input = from;
+fn end(mut input: Stdin) -> Result<(), InputError> {
     let mut beyond = [0u8; 1];
-    match input.read(&mut beyond) {
-        Err(_) => Input::Failed,
-        Ok(0) => Input::Text(held),
-        Ok(_) => Input::TooLong,
+    if input.read(&mut beyond)? == 0 {
+        Ok(())
+    } else {
+        Err(InputError::TooLong)
     }
 }
 
 // Walks the message from the root of the table.
-fn put_message(out: Stdout, text: &[u8], n: usize, slots: &mut Slots) -> bool
-    requires { n ≤ length text.now }
-{
-    let walked = message::walk(&nodes(), &names(), 0, &text[..n], slots);
-    if !put_title(out) {
-        return false;
-    }
+fn put_message(out: Stdout, text: &[u8], slots: &mut Slots) -> io::Result<()> {
+    let walked = message::walk(&nodes(), &names(), 0, text, slots);
+    put_title(out)?;
     match walked {
-        Walked::Units(units) => put_all(out, slots, units),
-        Walked::Refused { units, error } => put_up_to(out, slots, units, error),
+        Ok(units) => {
+            put_units(out, &slots[..units])?;
+            put_line(out, Told::End(units))
+        }
+        Err(stopped) => {
+            put_units(out, &slots[..stopped.units])?;
+            put_line(
+                out,
+                Told::Refused {
+                    number: stopped.units + 1,
+                    error: stopped.error,
+                },
+            )
+        }
     }
 }
 
-fn put_too_long(out: Stdout) -> bool {
-    if !put_title(out) {
-        return false;
-    }
+fn put_too_long(out: Stdout) -> io::Result<()> {
+    put_title(out)?;
     put_line(
         out,
         Told::Refused {
@@ -104,56 +114,27 @@ fn put_too_long(out: Stdout) -> bool {
     )
 }
 
-fn put_title(out: Stdout) -> bool {
-    out.write_all(b"unit command kind items branch\n").is_ok()
+fn put_title(out: Stdout) -> io::Result<()> {
+    out.write_all(b"unit command kind items branch\n")
 }
 
-// The units of a message that is read to its end.
-fn put_all(out: Stdout, slots: &Slots, units: usize) -> bool
-    requires { units ≤ length slots.now }
-{
-    if !put_units(out, slots, units) {
-        return false;
+// A line for each unit that was read.
+fn put_units(out: Stdout, slots: &[u64]) -> io::Result<()> {
+    for (i, slot) in slots.iter().enumerate() {
+        put_line(
+            out,
+            Told::Unit {
+                number: i + 1,
+                unit: record::unpack(*slot),
+            },
+        )?;
     }
-    put_line(out, Told::End(units))
-}
-
-// The units before the one that is refused.
-fn put_up_to(out: Stdout, slots: &Slots, units: usize, error: ErrorCode) -> bool
-    requires { units ≤ length slots.now }
-{
-    if !put_units(out, slots, units) {
-        return false;
-    }
-    put_line(
-        out,
-        Told::Refused {
-            number: units + 1,
-            error,
-        },
-    )
-}
-
-fn put_units(out: Stdout, slots: &[u64], units: usize) -> bool
-    requires { units ≤ length slots.now }
-{
-    let mut i = 0;
-    while i < units {
-        let told = Told::Unit {
-            number: i + 1,
-            unit: record::unpack(slots[i]),
-        };
-        if !put_line(out, told) {
-            return false;
-        }
-        i += 1;
-    }
-    true
+    Ok(())
 }
 
 // Writes one line.
-fn put_line(out: Stdout, told: Told) -> bool {
+fn put_line(out: Stdout, told: Told) -> io::Result<()> {
     let mut line = [0u8; 128];
     let n = report::walk_line(told, &mut line);
-    out.write_all(&line[..n]).is_ok()
+    out.write_all(&line[..n])
 }

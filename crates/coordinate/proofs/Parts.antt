@@ -1,8 +1,8 @@
 -- A signed integer in a text, and the parts of a text that its `!` join.
+use Rattle.std.specs.Prelude.{Result, Ok, Err, Option, Some, None}
 use Prim.Native.Nat.{ℕ, zero, suc, ◌+◌, ◌-◌, ◌^◌, ◌≤◌, ◌<◌}
 use mathlib.Core.Path.{◌≡◌, refl, sym, ap, ◌∙◌, fun_ext}
 use mathlib.Core.List.{List, [], ◌∷◌, ◌++◌, append_assoc, append-nil}
-use mathlib.Core.Option.{Option, none, some}
 use mathlib.Core.Bool.{Bool, true, false, cond, true≢false, and-false, not}
 use mathlib.Core.Logic.{⊎_elim, ◌⊎◌, inl, inr}
 use native.Mathlib.Omega.{arith}
@@ -16,9 +16,8 @@ use Rattle.kind.specs.Class.{is_digit, is_sign}
 use Rattle.kind.proofs.Tests.{and_left, less_or_not, and_right, either}
 use Rattle.util.specs.Run.{run, run_end, sign_end, stands_at, every}
 use Rattle.util.proofs.{Runs.run_again, Every.run_whole}
-use Rattle.integer.specs.{Digit.is_digit_of, Digit.value_of, declared.Signed.Signed, Number.signed_at}
+use Rattle.integer.specs.{Digit.is_digit_of, Digit.value_of, Number.signed_at}
 use Rattle.integer.specs.Number.{digits, found_at, unsigned_of, unsigned_at, signed_of}
-use Rattle.integer.specs.declared.Unsigned.TheVariants as unsigned
 use Rattle.integer.proofs.Digits.{decimal}
 use Rattle.decimal.specs.Decimal.{whole_end}
 use Rattle.forms.specs.DecimalForm.{Whole}
@@ -26,23 +25,25 @@ use Rattle.coordinate.specs.Form.{signed_by, Decimal}
 use Rattle.forms.proofs.{ItemAccepted.part, Decimals.whole_sign}
 use Rattle.forms.proofs.DecimalClaims.{whole_form, whole_count}
 use Rattle.forms.proofs.ItemProgress.{whole_from}
+use Rattle.forms.proofs.Pairs.{ok_pair}
 use Rattle.forms.proofs.ItemSeams.{none_first, here_get, here_inside, here_next}
 use native.Mathlib.Numerals.{add-one}
 use Rattle.util.proofs.Every.{every_join, every_weaker}
 use Rattle.coordinate.specs.Coordinate.{onto, parts, whole, integer, both, integers, written}
+use Rattle.integer.specs.declared.NumberError.{NumberError}
 
 -- the value of a sign and a number, where it is one of 64 bits
 abbrev worth : Bool → ℕ → Option ℤ
-worth true n = cond (leb n (2 ^ 63)) (some (neg_ℤ (pos n))) none
-worth false n = cond (ltb n (2 ^ 63)) (some (pos n)) none
+worth true n = cond (leb n (2 ^ 63)) (Some (neg_ℤ (pos n))) None
+worth false n = cond (ltb n (2 ^ 63)) (Some (pos n)) None
 
 abbrev bounded : Bool → ℕ → Option ℤ
-bounded minus n = cond (ltb n (2 ^ 64)) (worth minus n) none
+bounded minus n = cond (ltb n (2 ^ 64)) (worth minus n) None
 
 -- that value, with the place after it
-abbrev as_signed : Option ℤ → ℕ → Signed
-as_signed none end = Signed.TooLarge
-as_signed (some v) end = Signed.Value v end
+abbrev as_signed : Option ℤ → ℕ → Result (ℤ × ℕ) NumberError
+as_signed None end = Err NumberError.TooLarge
+as_signed (Some v) end = Ok (v, end)
 
 decimal_digits : is_digit_of 10 ≡ is_digit
 decimal_digits = fun_ext decimal
@@ -55,7 +56,7 @@ mag_negative (suc n) h = omega (arith, h)
 abbrev signed_with : Bool → ℕ → ℤ
 signed_with minus n = cond minus (neg_ℤ (pos n)) (pos n)
 
-bounds : (minus : Bool) (n : ℕ) → mag (signed_with minus n) < 2 ^ 63 → bounded minus n ≡ some (signed_with minus n)
+bounds : (minus : Bool) (n : ℕ) → mag (signed_with minus n) < 2 ^ 63 → bounded minus n ≡ Some (signed_with minus n)
 bounds true zero h = refl
 bounds true (suc n) h =
     let k : suc n ≤ 2 ^ 63 = omega (arith, h) in
@@ -63,14 +64,14 @@ bounds true (suc n) h =
     rw (lt-ltb (suc n) (2 ^ 64) l, le-leb (suc n) (2 ^ 63) k)
 bounds false n h = let l : n < 2 ^ 64 = omega (arith, h) in rw (lt-ltb n (2 ^ 64) l, lt-ltb n (2 ^ 63) h)
 
-within : (minus : Bool) (n : ℕ) (v : ℤ) → bounded minus n ≡ some v → (v ≡ signed_with minus n) × (mag v < 2 ^ 63)
+within : (minus : Bool) (n : ℕ) (v : ℤ) → bounded minus n ≡ Some v → (v ≡ signed_with minus n) × (mag v < 2 ^ 63)
 within minus n v e = go minus (ltb n (2 ^ 64)) e
   where
-    there : (w : ℤ) (c : Bool) → (c ≡ true → mag w < 2 ^ 63) → cond c (some w) none ≡ some v → (v ≡ w) × (mag v < 2 ^ 63)
+    there : (w : ℤ) (c : Bool) → (c ≡ true → mag w < 2 ^ 63) → cond c (Some w) None ≡ Some v → (v ≡ w) × (mag v < 2 ^ 63)
     there w true f q = let e : v ≡ w = cc in (e, rw e (f refl))
     there w false f q = absurd (true≢false (cc))
 
-    go : (m c : Bool) → cond c (worth m n) none ≡ some v → (v ≡ signed_with m n) × (mag v < 2 ^ 63)
+    go : (m c : Bool) → cond c (worth m n) None ≡ Some v → (v ≡ signed_with m n) × (mag v < 2 ^ 63)
     go true true q = there (neg_ℤ (pos n)) (leb n (2 ^ 63)) (λ f. mag_negative n (leb-true n (2 ^ 63) f)) q
     go false true q = there (pos n) (ltb n (2 ^ 63)) (ltb-true n (2 ^ 63)) q
     go true false q = absurd (true≢false (cc))
@@ -90,11 +91,11 @@ module _ (minus : Bool) (at : ℕ) (ds : List ℕ) (h : 0 < length ds) where
       end : ℕ
       end = at + length ds
 
-      there : (w : ℤ) (d : Bool) → cond d (Signed.Value w end) Signed.TooLarge ≡ as_signed (cond d (some w) none) end
+      there : (w : ℤ) (d : Bool) → cond d (Ok (w, end)) (Err NumberError.TooLarge) ≡ as_signed (cond d (Some w) None) end
       there w true = refl
       there w false = refl
 
-      go : (m c : Bool) → signed_of m (cond c (unsigned.Value n end) unsigned.TooLarge) ≡ as_signed (cond c (worth m n) none) end
+      go : (m c : Bool) → signed_of m (cond c (Ok (n, end)) (Err NumberError.TooLarge)) ≡ as_signed (cond c (worth m n) None) end
       go true true = there (neg_ℤ (pos n)) (leb n (2 ^ 63))
       go false true = there (pos n) (ltb n (2 ^ 63))
       go true false = refl
@@ -148,33 +149,33 @@ pub record Read (s : List ℕ) (at : ℕ) (v : ℤ) (end : ℕ) : Type 0 where
   pub behind : end ≡ at + length word
 
 -- what was read is an integer in decimal, and the other way round
-written_decimal : {t : List ℕ} {v : ℤ} (f : Whole t) → 0 < length f.digits → bounded (stands_at 45 f.sign 0) (value_of 10 f.digits) ≡ some v → Decimal t v
+written_decimal : {t : List ℕ} {v : ℤ} (f : Whole t) → 0 < length f.digits → bounded (stands_at 45 f.sign 0) (value_of 10 f.digits) ≡ Some v → Decimal t v
 unfolding signed_by
 written_decimal {v = v} f h e =
     let k = within (stands_at 45 f.sign 0) (value_of 10 f.digits) v e in
     record { form = f; some_digit = h; value = k.0; fits = k.1 }
 
-decimal_worth : {t : List ℕ} {v : ℤ} (d : Decimal t v) → bounded (stands_at 45 d.form.sign 0) (value_of 10 d.form.digits) ≡ some v
+decimal_worth : {t : List ℕ} {v : ℤ} (d : Decimal t v) → bounded (stands_at 45 d.form.sign 0) (value_of 10 d.form.digits) ≡ Some v
 unfolding signed_by
 decimal_worth {v = v} d =
-    bounds (stands_at 45 d.form.sign 0) (value_of 10 d.form.digits) (rw d.value at d.fits) ∙ ap some (sym d.value)
+    bounds (stands_at 45 d.form.sign 0) (value_of 10 d.form.digits) (rw d.value at d.fits) ∙ ap Some (sym d.value)
 
 -- it has a byte at least
 pub some_byte : (t : List ℕ) (v : ℤ) → Decimal t v → 0 < length t
 some_byte t v d = omega (arith, ap length d.form.parts, length-append d.form.sign d.form.digits, d.some_digit)
 
-pub decimal_read : (s : List ℕ) (at : ℕ) (w y : List ℕ) → drop at s ≡ w ++ y → (v : ℤ) → Decimal w v → is_digit (get_or y 0 0) ≡ false → signed_at s at ≡ Signed.Value v (at + length w)
+pub decimal_read : (s : List ℕ) (at : ℕ) (w y : List ℕ) → drop at s ≡ w ++ y → (v : ℤ) → Decimal w v → is_digit (get_or y 0 0) ≡ false → signed_at s at ≡ Ok (v, at + length w)
 decimal_read s at w y h v d stops =
     integer_read s at w y h d.form d.some_digit stops ∙ ap (λ (o : Option ℤ). as_signed o (at + length w)) (decimal_worth d)
 
-abbrev pub is_value : Signed → Bool
-is_value (Signed.Value v end) = true
-is_value Signed.NoDigit = false
-is_value Signed.TooLarge = false
+abbrev pub is_value : Result (ℤ × ℕ) NumberError → Bool
+is_value (Ok (v, end)) = true
+is_value (Err NumberError.NoDigit) = false
+is_value (Err NumberError.TooLarge) = false
 
-value_same : (o : Option ℤ) (i : ℕ) (v : ℤ) (end : ℕ) → as_signed o i ≡ Signed.Value v end → (o ≡ some v) × (i ≡ end)
-value_same none i v end e = absurd (true≢false (cc))
-value_same (some w) i v end e = (cc, cc)
+value_same : (o : Option ℤ) (i : ℕ) (v : ℤ) (end : ℕ) → as_signed o i ≡ Ok (v, end) → (o ≡ Some v) × (i ≡ end)
+value_same None i v end e = absurd (true≢false (cc))
+value_same (Some w) i v end e = let k = ok_pair e in (ap Some k.0, k.1)
 
 none_there : (p : ℕ → Bool) → p 0 ≡ false → (t : List ℕ) → run p t ≡ 0 → p (get_or t 0 0) ≡ false
 unfolding run
@@ -194,7 +195,7 @@ module _ (s : List ℕ) (at : ℕ) where
   unfolding whole_end run_end
   width k = omega (arith, k)
 
-  no_digits : length (whole_form s at).digits ≡ 0 → signed_at s at ≡ Signed.NoDigit
+  no_digits : length (whole_form s at).digits ≡ 0 → signed_at s at ≡ Err NumberError.NoDigit
   unfolding signed_at unsigned_at unsigned_of found_at signed_of digits value_of
   no_digits e =
       let z : run is_digit (drop (sign_end s at) s) ≡ 0 = width (sym (whole_count s at) ∙ e) in
@@ -213,7 +214,7 @@ module _ (s : List ℕ) (at : ℕ) where
   unfolding is_digit
   stopped = none_there is_digit refl (drop (whole_end s at) s) (run_none is_digit s (whole_end s at) whole_ends)
 
-  pub integer_form : (v : ℤ) (end : ℕ) → signed_at s at ≡ Signed.Value v end → Read s at v end
+  pub integer_form : (v : ℤ) (end : ℕ) → signed_at s at ≡ Ok (v, end) → Read s at v end
   integer_form v end e = ⊎_elim found none_found (less_or_not 0 (length (whole_form s at).digits))
     where
       found : 0 < length (whole_form s at).digits → Read s at v end
@@ -285,11 +286,11 @@ front_of (b ∷ t) = go (eqb b 33) refl (front_of t)
         }
 
 -- a text is one integer exactly where it is one in decimal
-pub integer_of : (t : List ℕ) (v : ℤ) → Decimal t v → integer t ≡ some v
+pub integer_of : (t : List ℕ) (v : ℤ) → Decimal t v → integer t ≡ Some v
 unfolding integer whole is_digit
 integer_of t v d = rw (decimal_read t 0 t [] (sym (append-nil t)) v d refl, eq-eqb (0 + length t) (length t) (omega arith))
 
-integer_behind : (w : List ℕ) (b : ℕ) (p : List ℕ) (v : ℤ) → Decimal w v → is_digit b ≡ false → integer (w ++ (b ∷ p)) ≡ none
+integer_behind : (w : List ℕ) (b : ℕ) (p : List ℕ) (v : ℤ) → Decimal w v → is_digit b ≡ false → integer (w ++ (b ∷ p)) ≡ None
 unfolding integer whole
 integer_behind w b p v d stops =
     let n : 0 + length w ≡ length (w ++ (b ∷ p)) → ⊥ = λ e. omega (arith, e, length-append w (b ∷ p)) in
@@ -299,17 +300,19 @@ empty : (l : List ℕ) → length l ≡ 0 → l ≡ []
 empty [] e = refl
 empty (b ∷ l) e = absurd (omega (arith, e))
 
-all_of : (t : List ℕ) (v : ℤ) (r : Signed) → whole (length t) r ≡ some v → r ≡ Signed.Value v (length t)
+all_of : (t : List ℕ) (v : ℤ) (r : Result (ℤ × ℕ) NumberError) → whole (length t) r ≡ Some v → r ≡ Ok (v, length t)
 unfolding whole
-all_of t v (Signed.Value w end) e = go (eqb end (length t)) refl e
+all_of t v (Ok (w, end)) e = go (eqb end (length t)) refl e
   where
-    go : (c : Bool) → eqb end (length t) ≡ c → cond c (some w) none ≡ some v → Signed.Value w end ≡ Signed.Value v (length t)
-    go true f q = cc (eqb-true end (length t) f)
+    go : (c : Bool) → eqb end (length t) ≡ c → cond c (Some w) None ≡ Some v → ◌≡◌ {A = Result (ℤ × ℕ) NumberError} (Ok (w, end)) (Ok (v, length t))
+    go true f q =
+        let k : w ≡ v = cc in
+        rw (k, eqb-true end (length t) f)
     go false f q = absurd (true≢false (cc))
-all_of t v Signed.NoDigit e = absurd (true≢false (cc))
-all_of t v Signed.TooLarge e = absurd (true≢false (cc))
+all_of t v (Err NumberError.NoDigit) e = absurd (true≢false (cc))
+all_of t v (Err NumberError.TooLarge) e = absurd (true≢false (cc))
 
-pub integer_is : (t : List ℕ) (v : ℤ) → integer t ≡ some v → Decimal t v
+pub integer_is : (t : List ℕ) (v : ℤ) → integer t ≡ Some v → Decimal t v
 unfolding integer
 integer_is t v e =
     let r : Read t 0 v (length t) = integer_form t 0 v (length t) (all_of t v (signed_at t 0) e) in
@@ -319,7 +322,7 @@ integer_is t v e =
     rw w r.decimal
 
 -- The coordinates of a text from a place on, by the integer that was read there.
-module _ (s : List ℕ) (at : ℕ) (v : ℤ) (end : ℕ) (e : signed_at s at ≡ Signed.Value v end) where
+module _ (s : List ℕ) (at : ℕ) (v : ℤ) (end : ℕ) (e : signed_at s at ≡ Ok (v, end)) where
   r : Read s at v end
   r = integer_form s at v end e
 
@@ -332,7 +335,7 @@ module _ (s : List ℕ) (at : ℕ) (v : ℤ) (end : ℕ) (e : signed_at s at ≡
   behind : drop end s ≡ r.rest
   behind = ap (λ (i : ℕ). drop i s) r.behind ∙ here_next s at w r.rest r.parts
 
-  pub then_last : length s ≤ end → written (drop at s) ≡ some (v ∷ [])
+  pub then_last : length s ≤ end → written (drop at s) ≡ Some (v ∷ [])
   unfolding written integers both parts
   then_last h =
       let z : r.rest ≡ [] = sym behind ∙ drop_of_length-le s h in
@@ -343,13 +346,13 @@ module _ (s : List ℕ) (at : ℕ) (v : ℤ) (end : ℕ) (e : signed_at s at ≡
     next_byte : drop at s ≡ w ++ (get_or s end 0 ∷ drop (end + 1) s)
     next_byte = r.parts ∙ ap (λ (x : List ℕ). w ++ x) (sym behind ∙ drop-cons s end 0 h ∙ rw (add-one end))
 
-    pub then_bang : get_or s end 0 ≡ 33 → written (drop at s) ≡ both (some v) (written (drop (end + 1) s))
+    pub then_bang : get_or s end 0 ≡ 33 → written (drop at s) ≡ both (Some v) (written (drop (end + 1) s))
     unfolding written integers parts
     then_bang b =
         let q : drop at s ≡ w ++ (33 ∷ drop (end + 1) s) = rw b at next_byte in
         rw (q, parts_before w (33 ∷ drop (end + 1) s) [] (parts (drop (end + 1) s)) refl clear, append-nil w, integer_of w v r.decimal)
 
-    pub then_other : (get_or s end 0 ≡ 33 → ⊥) → written (drop at s) ≡ none
+    pub then_other : (get_or s end 0 ≡ 33 → ⊥) → written (drop at s) ≡ None
     unfolding written integers both parts onto
     then_other n =
         let f : Front (drop (end + 1) s) = front_of (drop (end + 1) s) in
@@ -361,13 +364,13 @@ module _ (s : List ℕ) (at : ℕ) (v : ℤ) (end : ℕ) (e : signed_at s at ≡
         digit_stops = rw (sym behind ∙ drop-cons s end 0 h) at r.stops
 
 -- where no integer begins there are no coordinates
-pub then_none : (s : List ℕ) (at : ℕ) → is_value (signed_at s at) ≡ false → written (drop at s) ≡ none
+pub then_none : (s : List ℕ) (at : ℕ) → is_value (signed_at s at) ≡ false → written (drop at s) ≡ None
 unfolding written integers both
 then_none s at e = rw f.split (go (integer f.first) refl)
   where
     f : Front (drop at s)
     f = front_of (drop at s)
 
-    go : (o : Option ℤ) → integer f.first ≡ o → both o (integers f.others) ≡ none
-    go none q = refl
-    go (some v) q = absurd (true≢false (sym (ap is_value (decimal_read s at f.first f.back f.joint v (integer_is f.first v q) f.stops)) ∙ e))
+    go : (o : Option ℤ) → integer f.first ≡ o → both o (integers f.others) ≡ None
+    go None q = refl
+    go (Some v) q = absurd (true≢false (sym (ap is_value (decimal_read s at f.first f.back f.joint v (integer_is f.first v q) f.stops)) ∙ e))

@@ -1,4 +1,5 @@
 -- Laws of coordinates in words, as the code meets them.
+use Rattle.std.specs.Prelude.{Result, Ok, Err}
 use Prim.Native.Nat.{ℕ}
 use mathlib.Core.Path.{◌≡◌, refl}
 use mathlib.Core.List.{List, [], ◌∷◌}
@@ -8,10 +9,7 @@ use lib.ListN.{length, set}
 use borrow.Author.Rules.{rules}
 use Rattle.error.specs.{Code.code_of, declared.ErrorCode.ErrorCode, declared.ErrorCode.TheVariants.NoSlotLeft}
 use Rattle.coordinate.specs.Coordinate.{coordinate_of, written, pair_of, triple_of}
-use Rattle.coordinate.specs.{declared.Coordinate.Coordinate, declared.Pair.Pair, declared.Triple.Triple}
 use Rattle.unsigned_coordinate.specs.Unsigned.{unsigned_of, unsigned_pair_of, unsigned_triple_of}
-use Rattle.unsigned_coordinate.specs.{declared.UnsignedCoordinate.UnsignedCoordinate, declared.UnsignedPair.UnsignedPair}
-use Rattle.unsigned_coordinate.specs.declared.UnsignedTriple.{UnsignedTriple}
 use Rattle.coordinate_words.specs.Coordinates.{one_in, two_in, three_in, coordinates_in, unsigned_one_in, unsigned_two_in, unsigned_three_in, unsigned_in}
 
 -- lists of one, two and three, and of any other length
@@ -44,30 +42,30 @@ module _ {A : Type 0} where
 
 -- what was read, by the number of words and its case
 module _ (s : List ℕ) (l : List ℤ) where
-  module _ (h : length l ≡ 1) (x : Coordinate) (ex : x ≡ coordinate_of s) where
-    pub one_refused' : (e : ErrorCode) (n : ℤ) → n ≡ code_of e → x ≡ Coordinate.Refused e → record { code = n; words = l } ≡ coordinates_in s l
+  module _ (h : length l ≡ 1) (x : Result ℤ ErrorCode) (ex : x ≡ coordinate_of s) where
+    pub one_refused' : (e : ErrorCode) (n : ℤ) → n ≡ code_of e → x ≡ Err e → record { code = n; words = l } ≡ coordinates_in s l
     unfolding coordinates_in one_in
     one_refused' e n en q = rw (en, (one l h).1, ← ex, q)
 
-    pub one_read' : (a : ℤ) → x ≡ Coordinate.Value a → record { code = pos 0; words = set l 0 a } ≡ coordinates_in s l
+    pub one_read' : (a : ℤ) → x ≡ Ok a → record { code = pos 0; words = set l 0 a } ≡ coordinates_in s l
     unfolding coordinates_in one_in
     one_read' a q = rw ((one l h).1, ← ex, q)
 
-  module _ (h : length l ≡ 2) (x : Pair) (ex : x ≡ pair_of (written s)) where
-    pub two_refused' : (e : ErrorCode) (n : ℤ) → n ≡ code_of e → x ≡ Pair.Refused e → record { code = n; words = l } ≡ coordinates_in s l
+  module _ (h : length l ≡ 2) (x : Result (ℤ × ℤ) ErrorCode) (ex : x ≡ pair_of (written s)) where
+    pub two_refused' : (e : ErrorCode) (n : ℤ) → n ≡ code_of e → x ≡ Err e → record { code = n; words = l } ≡ coordinates_in s l
     unfolding coordinates_in two_in
     two_refused' e n en q = rw (en, (two l h).2, ← ex, q)
 
-    pub two_read' : (a b : ℤ) → x ≡ Pair.Values a b → record { code = pos 0; words = set (set l 0 a) 1 b } ≡ coordinates_in s l
+    pub two_read' : (a b : ℤ) → x ≡ Ok (a, b) → record { code = pos 0; words = set (set l 0 a) 1 b } ≡ coordinates_in s l
     unfolding coordinates_in two_in
     two_read' a b q = rw ((two l h).2, ← ex, q)
 
-  module _ (h : length l ≡ 3) (x : Triple) (ex : x ≡ triple_of (written s)) where
-    pub three_refused' : (e : ErrorCode) (n : ℤ) → n ≡ code_of e → x ≡ Triple.Refused e → record { code = n; words = l } ≡ coordinates_in s l
+  module _ (h : length l ≡ 3) (x : Result (ℤ × ℤ × ℤ) ErrorCode) (ex : x ≡ triple_of (written s)) where
+    pub three_refused' : (e : ErrorCode) (n : ℤ) → n ≡ code_of e → x ≡ Err e → record { code = n; words = l } ≡ coordinates_in s l
     unfolding coordinates_in three_in
     three_refused' e n en q = rw (en, (three l h).3, ← ex, q)
 
-    pub three_read' : (a b c : ℤ) → x ≡ Triple.Values a b c → record { code = pos 0; words = set (set (set l 0 a) 1 b) 2 c } ≡ coordinates_in s l
+    pub three_read' : (a b c : ℤ) → x ≡ Ok (a, b, c) → record { code = pos 0; words = set (set (set l 0 a) 1 b) 2 c } ≡ coordinates_in s l
     unfolding coordinates_in three_in
     three_read' a b c q = rw ((three l h).3, ← ex, q)
 
@@ -78,30 +76,30 @@ module _ (s : List ℕ) (l : List ℤ) where
 pub ruleset laws = (rules, one_refused', one_read', two_refused', two_read', three_refused', three_read', other')
 
 module _ (s : List ℕ) (l : List ℕ) where
-  module _ (h : length l ≡ 1) (x : UnsignedCoordinate) (ex : x ≡ unsigned_of (coordinate_of s)) where
-    pub unsigned_one_refused' : (e : ErrorCode) (n : ℤ) → n ≡ code_of e → x ≡ UnsignedCoordinate.Refused e → record { code = n; words = l } ≡ unsigned_in s l
+  module _ (h : length l ≡ 1) (x : Result ℕ ErrorCode) (ex : x ≡ unsigned_of (coordinate_of s)) where
+    pub unsigned_one_refused' : (e : ErrorCode) (n : ℤ) → n ≡ code_of e → x ≡ Err e → record { code = n; words = l } ≡ unsigned_in s l
     unfolding unsigned_in unsigned_one_in
     unsigned_one_refused' e n en q = rw (en, (one l h).1, ← ex, q)
 
-    pub unsigned_one_read' : (a : ℕ) → x ≡ UnsignedCoordinate.Value a → record { code = pos 0; words = set l 0 a } ≡ unsigned_in s l
+    pub unsigned_one_read' : (a : ℕ) → x ≡ Ok a → record { code = pos 0; words = set l 0 a } ≡ unsigned_in s l
     unfolding unsigned_in unsigned_one_in
     unsigned_one_read' a q = rw ((one l h).1, ← ex, q)
 
-  module _ (h : length l ≡ 2) (x : UnsignedPair) (ex : x ≡ unsigned_pair_of (pair_of (written s))) where
-    pub unsigned_two_refused' : (e : ErrorCode) (n : ℤ) → n ≡ code_of e → x ≡ UnsignedPair.Refused e → record { code = n; words = l } ≡ unsigned_in s l
+  module _ (h : length l ≡ 2) (x : Result (ℕ × ℕ) ErrorCode) (ex : x ≡ unsigned_pair_of (pair_of (written s))) where
+    pub unsigned_two_refused' : (e : ErrorCode) (n : ℤ) → n ≡ code_of e → x ≡ Err e → record { code = n; words = l } ≡ unsigned_in s l
     unfolding unsigned_in unsigned_two_in
     unsigned_two_refused' e n en q = rw (en, (two l h).2, ← ex, q)
 
-    pub unsigned_two_read' : (a b : ℕ) → x ≡ UnsignedPair.Values a b → record { code = pos 0; words = set (set l 0 a) 1 b } ≡ unsigned_in s l
+    pub unsigned_two_read' : (a b : ℕ) → x ≡ Ok (a, b) → record { code = pos 0; words = set (set l 0 a) 1 b } ≡ unsigned_in s l
     unfolding unsigned_in unsigned_two_in
     unsigned_two_read' a b q = rw ((two l h).2, ← ex, q)
 
-  module _ (h : length l ≡ 3) (x : UnsignedTriple) (ex : x ≡ unsigned_triple_of (triple_of (written s))) where
-    pub unsigned_three_refused' : (e : ErrorCode) (n : ℤ) → n ≡ code_of e → x ≡ UnsignedTriple.Refused e → record { code = n; words = l } ≡ unsigned_in s l
+  module _ (h : length l ≡ 3) (x : Result (ℕ × ℕ × ℕ) ErrorCode) (ex : x ≡ unsigned_triple_of (triple_of (written s))) where
+    pub unsigned_three_refused' : (e : ErrorCode) (n : ℤ) → n ≡ code_of e → x ≡ Err e → record { code = n; words = l } ≡ unsigned_in s l
     unfolding unsigned_in unsigned_three_in
     unsigned_three_refused' e n en q = rw (en, (three l h).3, ← ex, q)
 
-    pub unsigned_three_read' : (a b c : ℕ) → x ≡ UnsignedTriple.Values a b c → record { code = pos 0; words = set (set (set l 0 a) 1 b) 2 c } ≡ unsigned_in s l
+    pub unsigned_three_read' : (a b c : ℕ) → x ≡ Ok (a, b, c) → record { code = pos 0; words = set (set (set l 0 a) 1 b) 2 c } ≡ unsigned_in s l
     unfolding unsigned_in unsigned_three_in
     unsigned_three_read' a b c q = rw ((three l h).3, ← ex, q)
 

@@ -5,9 +5,7 @@ ghost use Rattle.std.specs.Prelude.{◌≡◌};
 ghost use Rattle.words.specs.Outcome.{Outcome};
 ghost use Rattle.coordinate_words.specs.Coordinates.{coordinates_in, unsigned_in};
 
-use coordinate::{Coordinate, Pair, Triple};
 use error::ErrorCode;
-use unsigned_coordinate::{UnsignedCoordinate, UnsignedPair, UnsignedTriple};
 
 // The coordinates of a spec, as many as there are words: one, two or three.
 pub fn coordinates(spec: &[u8], words: &mut [i64]) -> i32
@@ -15,32 +13,32 @@ pub fn coordinates(spec: &[u8], words: &mut [i64]) -> i32
 {
     if words.len() == 1 {
         match coordinate::read_coordinate(spec) {
-            Coordinate::Value(a) => {
-                words[0] = a;
+            Ok(first) => {
+                words[0] = first;
                 return 0;
             }
-            Coordinate::Refused(e) => return e.get_code(),
+            Err(e) => return e.get_code(),
         }
     }
     if words.len() == 2 {
         match coordinate::read_pair(spec) {
-            Pair::Values(a, b) => {
-                words[0] = a;
-                words[1] = b;
+            Ok((first, second)) => {
+                words[0] = first;
+                words[1] = second;
                 return 0;
             }
-            Pair::Refused(e) => return e.get_code(),
+            Err(e) => return e.get_code(),
         }
     }
     if words.len() == 3 {
         match coordinate::read_triple(spec) {
-            Triple::Values(a, b, c) => {
-                words[0] = a;
-                words[1] = b;
-                words[2] = c;
+            Ok((first, second, third)) => {
+                words[0] = first;
+                words[1] = second;
+                words[2] = third;
                 return 0;
             }
-            Triple::Refused(e) => return e.get_code(),
+            Err(e) => return e.get_code(),
         }
     }
     ErrorCode::NoSlotLeft.get_code()
@@ -52,32 +50,32 @@ pub fn unsigned_coordinates(spec: &[u8], words: &mut [u64]) -> i32
 {
     if words.len() == 1 {
         match unsigned_coordinate::read_unsigned_coordinate(spec) {
-            UnsignedCoordinate::Value(a) => {
+            Ok(a) => {
                 words[0] = a;
                 return 0;
             }
-            UnsignedCoordinate::Refused(e) => return e.get_code(),
+            Err(e) => return e.get_code(),
         }
     }
     if words.len() == 2 {
         match unsigned_coordinate::read_unsigned_pair(spec) {
-            UnsignedPair::Values(a, b) => {
+            Ok((a, b)) => {
                 words[0] = a;
                 words[1] = b;
                 return 0;
             }
-            UnsignedPair::Refused(e) => return e.get_code(),
+            Err(e) => return e.get_code(),
         }
     }
     if words.len() == 3 {
         match unsigned_coordinate::read_unsigned_triple(spec) {
-            UnsignedTriple::Values(a, b, c) => {
+            Ok((a, b, c)) => {
                 words[0] = a;
                 words[1] = b;
                 words[2] = c;
                 return 0;
             }
-            UnsignedTriple::Refused(e) => return e.get_code(),
+            Err(e) => return e.get_code(),
         }
     }
     ErrorCode::NoSlotLeft.get_code()

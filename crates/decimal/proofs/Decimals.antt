@@ -1,4 +1,5 @@
 -- Laws of decimal numbers and suffixes, as the code meets them.
+use Rattle.std.specs.Prelude.{Result, Option, Some, None}
 use Prim.Native.Nat.{ℕ, ◌+◌, ◌-◌, ◌≤◌, ◌<◌}
 use mathlib.Core.Path.{◌≡◌, ◌∙◌}
 use mathlib.Core.List.{List}
@@ -16,10 +17,11 @@ use Rattle.util.proofs.Runs.{run_again, run_from}
 use Rattle.token.specs.{View.view_of, declared.View.View}
 use Rattle.token.specs.declared.Token.TheVariants.{DecimalNumericProgramData, DecimalNumericSuffixProgramData}
 use Rattle.item.specs.Follow.{token, refused, followed}
-use Rattle.item.specs.{Near.run_end_among, declared.Read.Read}
+use Rattle.item.specs.{Near.run_end_among}
 use Rattle.item.proofs.Words.{among_from, among_under, among_whole}
 use Rattle.decimal.specs.Decimal.{whole_end, has_whole, fraction_end, has_fraction, mantissa, begins_exponent, exponent, with_exponent, number, number_to, nrf, in_suffix, begins_suffix, suffixed, suffix_data, numeric_to, numeric_data}
-use Rattle.decimal.specs.{declared.Place.Place, declared.Place.TheVariants.At, declared.Place.TheVariants.Nowhere}
+use Rattle.error.specs.declared.ErrorCode.{ErrorCode}
+use Rattle.token.specs.declared.Token.{Token}
 
 module _ (s : List ℕ) (at : ℕ) where
   pub fraction_past' : length s ≤ at → at ≡ fraction_end s at
@@ -47,16 +49,16 @@ module _ (s : List ℕ) (at whole : ℕ) (ew : whole ≡ sign_end s at) (point :
   pub mantissa_forward' : point ≤ end
   mantissa_forward' = rw ee (fraction_from s point)
 
-  pub mantissa_whole' : whole < point → At end ≡ mantissa s at
+  pub mantissa_whole' : whole < point → Some end ≡ mantissa s at
   unfolding mantissa has_whole
   mantissa_whole' h = rw (← behind, ← ew, ← ee, lt-ltb whole point h)
 
   module _ (h : point ≤ whole) where
-    pub mantissa_fraction' : 1 < end - point → At end ≡ mantissa s at
+    pub mantissa_fraction' : 1 < end - point → Some end ≡ mantissa s at
     unfolding mantissa has_whole has_fraction
     mantissa_fraction' k = rw (← behind, ← ew, ← ee, le-ltb whole point h, lt-ltb 1 (end - point) k)
 
-    pub mantissa_none' : end - point ≤ 1 → Nowhere ≡ mantissa s at
+    pub mantissa_none' : end - point ≤ 1 → None ≡ mantissa s at
     unfolding mantissa has_whole has_fraction
     mantissa_none' k = rw (← behind, ← ew, ← ee, le-ltb whole point h, le-ltb 1 (end - point) k)
 
@@ -70,49 +72,49 @@ module _ (b : ℕ) where
   small_e' n = rw (ne_eqb b 69 n)
 
 module _ (s : List ℕ) (at : ℕ) where
-  pub exponent_past' : length s ≤ at → At at ≡ exponent s at
+  pub exponent_past' : length s ≤ at → Some at ≡ exponent s at
   unfolding exponent begins_exponent
   exponent_past' h = rw (get_or-eq_default s 0 h)
 
   module _ (r : Bool) (er : r ≡ begins_exponent (get_or s at 0)) where
-    pub exponent_none' : not r ≡ true → At at ≡ exponent s at
+    pub exponent_none' : not r ≡ true → Some at ≡ exponent s at
     unfolding exponent
     exponent_none' q = rw (← er, not-true r q)
 
     module _ (q : not r ≡ false) (digits : ℕ) (ed : digits ≡ sign_end s (at + 1)) (end : ℕ) (ee : end ≡ run_end is_digit s digits) where
-      pub exponent_broken' : end ≡ digits → Nowhere ≡ exponent s at
+      pub exponent_broken' : end ≡ digits → None ≡ exponent s at
       unfolding exponent has_whole whole_end
       exponent_broken' e = let k : end ≤ digits = omega arith in rw (← er, not-false r q, ← ed, ← ee, le-ltb digits end k)
 
-      pub exponent_there' : (end ≡ digits → ⊥) → At end ≡ exponent s at
+      pub exponent_there' : (end ≡ digits → ⊥) → Some end ≡ exponent s at
       unfolding exponent has_whole whole_end
       exponent_there' n =
           let k : digits < end = omega (arith, n, ee, run_from is_digit s digits) in
           rw (← er, not-false r q, ← ed, ← ee, lt-ltb digits end k)
 
-  module _ (m : Place) (em : m ≡ mantissa s at) where
-    pub number_well' : (end : ℕ) → m ≡ At end → (r : Place) → r ≡ exponent s end → r ≡ number s at
+  module _ (m : Option ℕ) (em : m ≡ mantissa s at) where
+    pub number_well' : (end : ℕ) → m ≡ Some end → (r : Option ℕ) → r ≡ exponent s end → r ≡ number s at
     unfolding number with_exponent
     number_well' end e r er = er ∙ rw (← em, e)
 
-    pub number_ill' : m ≡ Nowhere → Nowhere ≡ number s at
+    pub number_ill' : m ≡ None → None ≡ number s at
     unfolding number with_exponent
     number_ill' e = rw (← em, e)
 
-  module _ (m : Place) (em : m ≡ number s at) where
-    pub nrf_well' : (end : ℕ) → m ≡ At end → token (DecimalNumericProgramData (view_of at end)) end ≡ nrf s at
+  module _ (m : Option ℕ) (em : m ≡ number s at) where
+    pub nrf_well' : (end : ℕ) → m ≡ Some end → token (DecimalNumericProgramData (view_of at end)) end ≡ nrf s at
     unfolding nrf number_to
     nrf_well' end e = rw (← em, e)
 
-    pub nrf_ill' : m ≡ Nowhere → refused NumericDataError ≡ nrf s at
+    pub nrf_ill' : m ≡ None → refused NumericDataError ≡ nrf s at
     unfolding nrf number_to
     nrf_ill' e = rw (← em, e)
 
-    pub numeric_well' : (end : ℕ) → m ≡ At end → (r : Read) → r ≡ suffix_data s (view_of at end) → r ≡ numeric_data s at
+    pub numeric_well' : (end : ℕ) → m ≡ Some end → (r : Result (Token × ℕ) ErrorCode) → r ≡ suffix_data s (view_of at end) → r ≡ numeric_data s at
     unfolding numeric_data numeric_to
     numeric_well' end e r er = er ∙ rw (← em, e)
 
-    pub numeric_ill' : m ≡ Nowhere → refused NumericDataError ≡ numeric_data s at
+    pub numeric_ill' : m ≡ None → refused NumericDataError ≡ numeric_data s at
     unfolding numeric_data numeric_to
     numeric_ill' e = rw (← em, e)
 
@@ -160,7 +162,7 @@ module _ (s : List ℕ) (v : View) (at : ℕ) (ea : at ≡ run_end is_white_spac
   again : run_end is_white_space s at ≡ run_end is_white_space s v.end
   again = rw ea (run_again is_white_space s v.end)
 
-  pub unsuffixed' : not r ≡ true → (x : Read) → x ≡ followed (DecimalNumericProgramData v) InvalidSuffix s at → x ≡ suffix_data s v
+  pub unsuffixed' : not r ≡ true → (x : Result (Token × ℕ) ErrorCode) → x ≡ followed (DecimalNumericProgramData v) InvalidSuffix s at → x ≡ suffix_data s v
   unfolding suffix_data followed
   unsuffixed' q x ex = ex ∙ rw (← ea, ← er, not-true r q, again, ← ea)
 
@@ -174,7 +176,7 @@ module _ (s : List ℕ) (v : View) (at : ℕ) (ea : at ≡ run_end is_white_spac
         let k : 12 < run_end in_suffix s at - at = omega (arith, h, ee, among_under 13 in_suffix s at) in
         rw (← ea, ← er, not-false r q, lt-leb (run_end in_suffix s at - at) 12 k)
 
-    pub suffix_short' : end - at ≤ 12 → (x : Read) → x ≡ followed (DecimalNumericSuffixProgramData v (view_of at end)) InvalidSuffix s end → x ≡ suffix_data s v
+    pub suffix_short' : end - at ≤ 12 → (x : Result (Token × ℕ) ErrorCode) → x ≡ followed (DecimalNumericSuffixProgramData v (view_of at end)) InvalidSuffix s end → x ≡ suffix_data s v
     unfolding suffix_data suffixed
     suffix_short' h x ex =
         let f : end ≡ run_end in_suffix s at = ee ∙ among_whole 13 in_suffix s at (omega (arith, h, ee)) in

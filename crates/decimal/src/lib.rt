@@ -2,41 +2,30 @@
 #![tactic(auto)]
 
 ghost use Rattle.std.specs.Prelude.{◌≡◌};
-ghost use Rattle.item.specs.Near.{run_end_among};
 ghost use Rattle.decimal.specs.Decimal.{fraction_end, mantissa, begins_exponent, exponent, number, nrf, in_suffix, begins_suffix, suffix_data, numeric_data};
 
 use error::ErrorCode;
 use item::Read;
+use kind::Class;
 use token::{Token, View};
-
-// A place, or that there is none.
-#[derive(Clone, Copy)]
-pub enum Place {
-    At(usize),
-    Nowhere,
-}
 
 // 7.7.2: a decimal number, without what may follow it.
 pub fn read_nrf(s: &[u8], at: usize) -> Read
     ensures { result ≡ nrf s.now at }
 {
-    match number_end(s, at) {
-        Place::At(end) => Read::Token {
-            token: Token::DecimalNumericProgramData(View { start: at, end }),
-            next: end,
-        },
-        Place::Nowhere => Read::Refused(ErrorCode::NumericDataError),
-    }
+    let end = number_end(s, at).ok_or(ErrorCode::NumericDataError)?;
+    Ok((
+        Token::DecimalNumericProgramData(View { start: at, end }),
+        end,
+    ))
 }
 
 // 7.7.2, 7.7.3: a decimal number with an optional suffix.
 pub fn read_numeric_data(s: &[u8], at: usize) -> Read
     ensures { result ≡ numeric_data s.now at }
 {
-    match number_end(s, at) {
-        Place::At(end) => read_suffix_data(s, View { start: at, end }),
-        Place::Nowhere => Read::Refused(ErrorCode::NumericDataError),
-    }
+    let end = number_end(s, at).ok_or(ErrorCode::NumericDataError)?;
+    read_suffix_data(s, View { start: at, end })
 }
 
 // 7.7.3: what follows a number: white space and a suffix, where there is one.
@@ -52,9 +41,9 @@ fn read_suffix_data(s: &[u8], number: View) -> Read
             ErrorCode::InvalidSuffix,
         );
     }
-    let end = suffix_end(s, at);
+    let end = item::near_run_end::<InSuffix>(s, at);
     if item::LONGEST_MNEMONIC < end - at {
-        return Read::Refused(ErrorCode::SuffixTooLong);
+        return Err(ErrorCode::SuffixTooLong);
     }
     item::skip_ws_to_separator(
         s,
@@ -64,19 +53,15 @@ fn read_suffix_data(s: &[u8], number: View) -> Read
     )
 }
 
-// The place behind the characters of a suffix that begin at a place, of 13 at most.
-fn suffix_end(s: &[u8], at: usize) -> usize
-    ensures { result ≡ run_end_among 13 in_suffix s.now at }
-{
-    let limit = item::near_end(s, at);
-    let mut end = at;
-    while end < limit {
-        if !in_suffix(s[end]) {
-            return end;
-        }
-        end += 1;
+// The class of what may stand in a suffix.
+struct InSuffix;
+
+impl Class for InSuffix {
+    ghost class = { in_suffix };
+
+    fn has(b: u8) -> bool {
+        in_suffix(b)
     }
-    end
 }
 
 // What may stand in a suffix.
@@ -112,29 +97,26 @@ fn begins_suffix(s: &[u8], at: usize) -> bool
 }
 
 // The place behind a number, where a good one begins at the place.
-fn number_end(s: &[u8], at: usize) -> Place
+fn number_end(s: &[u8], at: usize) -> Option<usize>
     ensures { result ≡ number s.now at }
 {
-    match mantissa_end(s, at) {
-        Place::At(end) => exponent_end(s, end),
-        Place::Nowhere => Place::Nowhere,
-    }
+    exponent_end(s, mantissa_end(s, at)?)
 }
 
 // The place behind a sign, digits, a point and digits; nowhere, where there is no digit.
-fn mantissa_end(s: &[u8], at: usize) -> Place
+fn mantissa_end(s: &[u8], at: usize) -> Option<usize>
     ensures { result ≡ mantissa s.now at }
 {
     let whole = util::skip_sign(s, at);
     let point = util::skip_digits(s, whole);
     let end = fraction_end(s, point);
     if whole < point {
-        return Place::At(end);
+        return Some(end);
     }
     if 1 < end - point {
-        return Place::At(end);
+        return Some(end);
     }
-    Place::Nowhere
+    None
 }
 
 // The place behind a point and digits, where a point stands at the place.
@@ -151,21 +133,21 @@ fn fraction_end(s: &[u8], at: usize) -> usize
 }
 
 // The place behind an exponent, where one begins at the place; nowhere, where it has no digit.
-fn exponent_end(s: &[u8], at: usize) -> Place
+fn exponent_end(s: &[u8], at: usize) -> Option<usize>
     ensures { result ≡ exponent s.now at }
 {
     if s.len() <= at {
-        return Place::At(at);
+        return Some(at);
     }
     if !begins_exponent(s[at]) {
-        return Place::At(at);
+        return Some(at);
     }
     let digits = util::skip_sign(s, at + 1);
     let end = util::skip_digits(s, digits);
     if end == digits {
-        return Place::Nowhere;
+        return None;
     }
-    Place::At(end)
+    Some(end)
 }
 
 // An E of either case.

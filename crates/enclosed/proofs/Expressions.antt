@@ -1,4 +1,5 @@
 -- Laws of expressions, as the code meets them.
+use Rattle.std.specs.Prelude.{Result}
 use Prim.Native.Nat.{ℕ, ◌+◌, ◌≤◌, ◌<◌}
 use mathlib.Core.Path.{◌≡◌, sym, ◌∙◌}
 use mathlib.Core.List.{List}
@@ -12,8 +13,10 @@ use Rattle.error.specs.declared.ErrorCode.TheVariants.{SuffixNotAllowed, Invalid
 use Rattle.kind.specs.Class.{is_quote, is_ascii}
 use Rattle.util.specs.Run.{run_end, stands_at}
 use Rattle.token.specs.{View.view_of, declared.Token.TheVariants.ExpressionProgramData}
-use Rattle.item.specs.{Follow.refused, Follow.followed, declared.Read.Read}
+use Rattle.item.specs.{Follow.refused, Follow.followed}
 use Rattle.enclosed.specs.Expression.{in_expression, bracketed, expression_data}
+use Rattle.error.specs.declared.ErrorCode.{ErrorCode}
+use Rattle.token.specs.declared.Token.{Token}
 
 module _ (b : ℕ) where
   pub double_quote' : b ≡ 34 → false ≡ in_expression b
@@ -53,7 +56,7 @@ module _ (s : List ℕ) (at end : ℕ) (e : end ≡ run_end in_expression s at) 
     unfolding expression_data bracketed stands_at
     foreign' n = rw (← e, lt-ltb end (length s) h, ne_eqb (get_or s end 0) 41 n)
 
-    pub closed' : get_or s end 0 ≡ 41 → (r : Read) → r ≡ followed (ExpressionProgramData (view_of at end)) SuffixNotAllowed s (end + 1) → r ≡ expression_data s at
+    pub closed' : get_or s end 0 ≡ 41 → (r : Result (Token × ℕ) ErrorCode) → r ≡ followed (ExpressionProgramData (view_of at end)) SuffixNotAllowed s (end + 1) → r ≡ expression_data s at
     unfolding expression_data bracketed stands_at
     closed' f r er = er ∙ rw (← e, lt-ltb end (length s) h, f)
 

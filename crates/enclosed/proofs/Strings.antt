@@ -1,4 +1,5 @@
 -- Laws of strings, as the code meets them.
+use Rattle.std.specs.Prelude.{Result}
 use Prim.Native.Nat.{ℕ, suc, ◌+◌, ◌≤◌, ◌<◌}
 use mathlib.Core.Path.{◌≡◌, sym, ap, ◌∙◌}
 use mathlib.Core.List.{List, [], ◌∷◌}
@@ -12,8 +13,10 @@ use borrow.Author.Tests.{le-leb, lt-leb, eq-eqb, ne_eqb}
 use Rattle.error.specs.declared.ErrorCode.TheVariants.{InvalidCharacter, InvalidStringData, SuffixNotAllowed}
 use Rattle.kind.specs.Class.{is_ascii}
 use Rattle.token.specs.{View.view_of, declared.Token.TheVariants.StringProgramData}
-use Rattle.item.specs.{Follow.refused, Follow.followed, declared.Read.Read}
+use Rattle.item.specs.{Follow.refused, Follow.followed}
 use Rattle.enclosed.specs.String.{in_string, string_end, closed, string_data}
+use Rattle.error.specs.declared.ErrorCode.{ErrorCode}
+use Rattle.token.specs.declared.Token.{Token}
 
 pub plain : (q b : ℕ) (t : List ℕ) → eqb b q ≡ false → is_ascii b ≡ true → in_string q (b ∷ t) ≡ suc (in_string q t)
 unfolding in_string
@@ -85,7 +88,7 @@ module _ (q : ℕ) (s : List ℕ) (at end : ℕ) (e : end ≡ string_end q s at)
     unfolding string_data closed
     not_ascii' n = rw (← e, lt-leb (length s) end h, ne_eqb (get_or s end 0) q n)
 
-    pub closed' : get_or s end 0 ≡ q → (r : Read) → r ≡ followed (StringProgramData (view_of at end)) SuffixNotAllowed s (end + 1) → r ≡ string_data q s at
+    pub closed' : get_or s end 0 ≡ q → (r : Result (Token × ℕ) ErrorCode) → r ≡ followed (StringProgramData (view_of at end)) SuffixNotAllowed s (end + 1) → r ≡ string_data q s at
     unfolding string_data closed
     closed' f r er = er ∙ rw (← e, lt-leb (length s) end h, eq-eqb (get_or s end 0) q f)
 

@@ -1,11 +1,12 @@
 -- String program data, IEEE 488.2 7.7.5.
-use Rattle.std.specs.Prelude.{ℕ, suc, ◌+◌, List, [], ◌∷◌, cond, eqb, leb, length, get_or, drop}
+use Rattle.std.specs.Prelude.{ℕ, suc, ◌+◌, List, [], ◌∷◌, cond, eqb, leb, length, get_or, drop, Result}
 use Rattle.error.specs.declared.ErrorCode.TheVariants.{InvalidCharacter, InvalidStringData, SuffixNotAllowed}
 use Rattle.kind.specs.Class.{is_ascii}
 use Rattle.token.specs.View.{view_of}
 use Rattle.token.specs.declared.Token.TheVariants.{StringProgramData}
 use Rattle.item.specs.Follow.{refused, followed}
-use Rattle.item.specs.declared.Read.{Read}
+use Rattle.error.specs.declared.ErrorCode.{ErrorCode}
+use Rattle.token.specs.declared.Token.{Token}
 
 -- IEEE 488.2 7.7.5.2: how many characters at the front of a text stand inside a string: ASCII but the quote, and the quote twice
 unfoldable pub in_string : ℕ → List ℕ → ℕ
@@ -21,7 +22,7 @@ unfoldable pub string_end : ℕ → List ℕ → ℕ → ℕ
 string_end q s at = at + in_string q (drop at s)
 
 -- what stands at that place, for a string that began at another: the quote that closes it, no byte, or a byte that is no ASCII
-unfoldable pub closed : ℕ → List ℕ → ℕ → ℕ → Read
+unfoldable pub closed : ℕ → List ℕ → ℕ → ℕ → Result (Token × ℕ) ErrorCode
 closed q s at end =
     cond (leb (length s) end) (refused InvalidStringData)
     (cond (eqb (get_or s end 0) q)
@@ -29,5 +30,5 @@ closed q s at end =
     (refused InvalidCharacter))
 
 -- IEEE 488.2 7.7.5.2: a string, from the place behind its opening quote; a doubled quote stays doubled in the view
-unfoldable pub string_data : ℕ → List ℕ → ℕ → Read
+unfoldable pub string_data : ℕ → List ℕ → ℕ → Result (Token × ℕ) ErrorCode
 string_data q s at = closed q s at (string_end q s at)

@@ -8,6 +8,7 @@ ghost use Rattle.enclosed.specs.Expression.{in_expression, expression_data};
 
 use error::ErrorCode;
 use item::Read;
+use kind::Class;
 use token::{Token, View};
 
 // 7.7.5: a string, from the place behind its opening quote.
@@ -16,10 +17,10 @@ pub fn read_string_data(s: &[u8], at: usize, quote: u8) -> Read
 {
     let end = string_end(s, at, quote);
     if s.len() <= end {
-        return Read::Refused(ErrorCode::InvalidStringData);
+        return Err(ErrorCode::InvalidStringData);
     }
     if s[end] != quote {
-        return Read::Refused(ErrorCode::InvalidCharacter);
+        return Err(ErrorCode::InvalidCharacter);
     }
     item::skip_ws_to_separator(
         s,
@@ -33,12 +34,12 @@ pub fn read_string_data(s: &[u8], at: usize, quote: u8) -> Read
 pub fn read_expression_data(s: &[u8], at: usize) -> Read
     ensures { result ≡ expression_data s.now at }
 {
-    let end = expression_end(s, at);
+    let end = util::run_end::<InExpression>(s, at);
     if s.len() <= end {
-        return Read::Refused(ErrorCode::InvalidExpression);
+        return Err(ErrorCode::InvalidExpression);
     }
     if s[end] != b')' {
-        return Read::Refused(ErrorCode::InvalidExpression);
+        return Err(ErrorCode::InvalidExpression);
     }
     item::skip_ws_to_separator(
         s,
@@ -48,7 +49,8 @@ pub fn read_expression_data(s: &[u8], at: usize) -> Read
     )
 }
 
-// The place behind what a string holds: the quote that closes it, a byte from 128 up, or the end of the text.
+// The place behind what a string holds: the quote that closes it, a byte from 128 up, or the end of the text. A doubled quote is passed in one step
+// of two, which no `for` takes.
 fn string_end(s: &[u8], at: usize, quote: u8) -> usize
     ensures { result ≡ string_end quote s.now at }
 {
@@ -73,18 +75,15 @@ fn string_end(s: &[u8], at: usize, quote: u8) -> usize
     end
 }
 
-// The place behind what an expression holds.
-fn expression_end(s: &[u8], at: usize) -> usize
-    ensures { result ≡ run_end in_expression s.now at }
-{
-    let mut end = at;
-    while end < s.len() {
-        if !in_expression(s[end]) {
-            return end;
-        }
-        end += 1;
+// The class of what may stand in an expression.
+struct InExpression;
+
+impl Class for InExpression {
+    ghost class = { in_expression };
+
+    fn has(b: u8) -> bool {
+        in_expression(b)
     }
-    end
 }
 
 // What may stand in an expression.

@@ -40,7 +40,7 @@ pub enum ErrorCode {
 }
 
 impl ErrorCode {
-    // The number that a refusal is reported by.
+    // The number that a refusal is reported by, under the original's name.
     pub fn get_code(self) -> i32
         ensures { result ≡ code_of self }
     {

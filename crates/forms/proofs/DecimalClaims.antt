@@ -1,4 +1,5 @@
 -- Decimal numbers: what is accepted has the form; the claims.
+use Rattle.std.specs.Prelude.{Option, Some, None}
 use Prim.Native.Nat.{ℕ, ◌+◌, ◌-◌, ◌≤◌, ◌<◌}
 use mathlib.Core.Path.{◌≡◌, refl, sym, ap, ◌∙◌}
 use mathlib.Core.List.{List, [], ◌∷◌, ◌++◌}
@@ -23,11 +24,10 @@ use Rattle.forms.proofs.ItemAccepted.{only_then, only_token, only_followed, ende
 use Rattle.forms.proofs.ItemProgress.{run_moves, sign_from, whole_from}
 use Rattle.decimal.specs.Decimal.{whole_end, has_whole, fraction_end, has_fraction, mantissa, begins_exponent, exponent, with_exponent, number, number_to, nrf, in_suffix, begins_suffix, suffixed, suffix_data, numeric_to, numeric_data}
 use Rattle.forms.specs.DecimalForm.{Whole, Fraction, Exponent, Number, Suffix}
-use Rattle.decimal.specs.declared.Place.{Place}
-use Rattle.decimal.specs.declared.Place.TheVariants.{At, Nowhere}
 use Rattle.decimal.proofs.Decimals.{fraction_from}
 use Rattle.forms.specs.DecimalClaims.{Claims}
 use Rattle.forms.proofs.Decimals.{nrf_read, number_read}
+use Rattle.forms.proofs.Pairs.{ok_pair}
 
 -- what numeric data is: a number alone, or with a suffix
 data Numeric (s : List ℕ) (at next : ℕ) : Token → Type 0 where
@@ -142,12 +142,12 @@ module _ (s : List ℕ) (i : ℕ) where
   fraction_digits h = omega (arith, fraction_form.count, ltb-true 1 (fraction_end s i - i) h)
 
   -- after a mantissa that ends inside the text
-  exponent_form : (end : ℕ) → i ≤ length s → exponent s i ≡ At end → (i ≤ end) × (end ≤ length s) × ((part s i end ≡ []) ⊎ Exponent (part s i end))
+  exponent_form : (end : ℕ) → i ≤ length s → exponent s i ≡ Some end → (i ≤ end) × (end ≤ length s) × ((part s i end ≡ []) ⊎ Exponent (part s i end))
   unfolding exponent begins_exponent
   exponent_form end h = go (begins_exponent (get_or s i 0)) (has_whole s (i + 1)) refl refl
     where
       go : (c d : Bool) → begins_exponent (get_or s i 0) ≡ c → has_whole s (i + 1) ≡ d
-          → cond c (cond d (At (whole_end s (i + 1))) Nowhere) (At i) ≡ At end
+          → cond c (cond d (Some (whole_end s (i + 1))) None) (Some i) ≡ Some end
           → (i ≤ end) × (end ≤ length s) × ((part s i end ≡ []) ⊎ Exponent (part s i end))
       go false d b w e =
           let m : i ≡ end = cc in
@@ -175,12 +175,12 @@ record Found (s : List ℕ) (at end : ℕ) : Type 0 where
   pub form : Number (part s at end)
 
 module _ (s : List ℕ) (at : ℕ) where
-  found : (end : ℕ) → number s at ≡ At end → Found s at end
+  found : (end : ℕ) → number s at ≡ Some end → Found s at end
   unfolding number with_exponent mantissa
   found end = go (has_whole s at) (has_fraction s (whole_end s at)) refl refl
     where
       with_digit : whole_end s at ≤ length s → 0 < length (whole_form s at).digits + length (fraction_form s (whole_end s at)).form.digits
-          → exponent s (fraction_end s (whole_end s at)) ≡ At end → Found s at end
+          → exponent s (fraction_end s (whole_end s at)) ≡ Some end → Found s at end
       with_digit k some e =
           let x = exponent_form s (fraction_end s (whole_end s at)) end (fraction_most s (whole_end s at) k) e in
           let l : fraction_end s (whole_end s at) ≤ end = x.0 in
@@ -204,21 +204,21 @@ module _ (s : List ℕ) (at : ℕ) where
           }
 
       go : (c d : Bool) → has_whole s at ≡ c → has_fraction s (whole_end s at) ≡ d
-          → with_exponent s (cond (c || d) (At (fraction_end s (whole_end s at))) Nowhere) ≡ At end → Found s at end
+          → with_exponent s (cond (c || d) (Some (fraction_end s (whole_end s at))) None) ≡ Some end → Found s at end
       go true d hc hd e = with_digit (whole_inside s at hc) (omega (arith, whole_digits s at hc)) e
       go false true hc hd e = with_digit (fraction_inside s (whole_end s at) hd) (omega (arith, fraction_digits s (whole_end s at) hd)) e
       go false false hc hd e = let z : ◌≡◌ {A = ℕ} 0 1 = cc in absurd (omega arith)
 
-  shown : (end : ℕ) → number s at ≡ At end → Number (part_of s (view_of at end))
+  shown : (end : ℕ) → number s at ≡ Some end → Number (part_of s (view_of at end))
   shown end e = let f : Found s at end = found end e in rw (part_shown s at end f.forward f.inside_text) f.form
 
   pub nrf_form : (t : Token) (next : ℕ) → nrf s at ≡ token t next → (t ≡ DecimalNumericProgramData (view_of at next)) × Number (part_of s (view_of at next))
   unfolding nrf number_to
   nrf_form t next = go (number s at) refl
     where
-      go : (m : Place) → number s at ≡ m → number_to at m ≡ token t next → (t ≡ DecimalNumericProgramData (view_of at next)) × Number (part_of s (view_of at next))
-      go Nowhere e h = absurd (only_token t next NumericDataError h)
-      go (At end) e h = let n : end ≡ next = cc in (cc, rw (← n) (shown end e))
+      go : (m : Option ℕ) → number s at ≡ m → number_to at m ≡ token t next → (t ≡ DecimalNumericProgramData (view_of at next)) × Number (part_of s (view_of at next))
+      go None e h = absurd (only_token t next NumericDataError h)
+      go (Some end) e h = let z = ok_pair h in (sym z.0 ∙ rw z.1, rw (← z.1) (shown end e))
 
   -- a letter or `/` is first
   suffix_first : (j : ℕ) → begins_suffix s j ≡ true → begins_suffix (part s j (run_end in_suffix s j)) 0 ≡ true
@@ -243,7 +243,7 @@ module _ (s : List ℕ) (at : ℕ) where
   unfolding numeric_data numeric_to suffix_data suffixed
   accepted t next = go (number s at) refl
     where
-      after : (end : ℕ) → number s at ≡ At end → (c : Bool) → begins_suffix s (run_end is_white_space s end) ≡ c
+      after : (end : ℕ) → number s at ≡ Some end → (c : Bool) → begins_suffix s (run_end is_white_space s end) ≡ c
           → cond c (suffixed s (view_of at end) (run_end is_white_space s end)) (followed (DecimalNumericProgramData (view_of at end)) InvalidSuffix s end) ≡ token t next
           → Numeric s at next t
       after end e true b h =
@@ -252,9 +252,9 @@ module _ (s : List ℕ) (at : ℕ) where
           rw (← q) (with_suffix refl (shown end e) refl (suffix_shown _ b c.0) (ended t _ _ _ _ next c.1))
       after end e false b h = let q = only_followed t next _ _ _ _ h in rw (← q) (alone refl (shown end e) (ended t _ _ _ _ next h))
 
-      go : (m : Place) → number s at ≡ m → numeric_to s at m ≡ token t next → Numeric s at next t
-      go Nowhere e h = absurd (only_token t next NumericDataError h)
-      go (At end) e h = after end e _ refl h
+      go : (m : Option ℕ) → number s at ≡ m → numeric_to s at m ≡ token t next → Numeric s at next t
+      go None e h = absurd (only_token t next NumericDataError h)
+      go (Some end) e h = after end e _ refl h
 
   pub number_form : (v : View) (next : ℕ) → numeric_data s at ≡ token (DecimalNumericProgramData v) next → (v.start ≡ at) × Number (part_of s v) × Ended s v.end next
   number_form v next h = go (accepted _ next h)

@@ -1,4 +1,5 @@
 -- Decimal numbers: what has the form is accepted.
+use Rattle.std.specs.Prelude.{Some}
 use Prim.Native.Nat.{ℕ, ◌+◌, ◌-◌, ◌≤◌, ◌<◌}
 use mathlib.Core.Path.{◌≡◌, refl, ap, ◌∙◌}
 use mathlib.Core.List.{List, [], ◌∷◌, ◌++◌, append_assoc}
@@ -19,7 +20,6 @@ use Rattle.forms.specs.ItemForm.{Follows}
 use Rattle.forms.proofs.ItemSeams.{here_get, here_stands, here_next, here_run, after_none, end_none, white_none, white_run, well_followed}
 use Rattle.decimal.specs.Decimal.{whole_end, has_whole, fraction_end, has_fraction, mantissa, begins_exponent, exponent, with_exponent, number, number_to, nrf, begins_suffix, suffix_data, numeric_to, numeric_data}
 use Rattle.forms.specs.DecimalForm.{Whole, Fraction, Exponent, Number, Stops}
-use Rattle.decimal.specs.declared.Place.TheVariants.{At}
 
 digit_no_sign : (b : ℕ) → is_digit b ≡ true → is_sign b ≡ false
 unfolding is_digit is_sign
@@ -110,19 +110,19 @@ module _ (p : ℕ → Bool) (capital-e : p 69 ≡ false) (small-e : p 101 ≡ fa
       (λ e. ap (λ (x : List ℕ). p (get_or (x ++ (w ++ y)) 0 0)) (dot_back b f e) ∙ q) f.point_or_none
 
 module _ (y : List ℕ) (z : Stops y) where
-  exponent_read : (s : List ℕ) (i : ℕ) (w : List ℕ) → drop i s ≡ w ++ y → (w ≡ []) ⊎ Exponent w → exponent s i ≡ At (i + length w)
+  exponent_read : (s : List ℕ) (i : ℕ) (w : List ℕ) → drop i s ≡ w ++ y → (w ≡ []) ⊎ Exponent w → exponent s i ≡ Some (i + length w)
   unfolding exponent
   exponent_read s i w h c =
       ⊎_elim (λ (e : w ≡ []).
       let g : drop i s ≡ y = h ∙ ap (λ (x : List ℕ). x ++ y) e in
       let m : i ≡ i + length w = omega (arith, ap length e) in
-      rw (here_get s i y g, z.no_exponent) (ap At m)) (λ (x : Exponent w).
+      rw (here_get s i y g, z.no_exponent) (ap Some m)) (λ (x : Exponent w).
       let g : drop i s ≡ x.letter ∷ (x.power ++ y) = h ∙ ap (λ (z : List ℕ). z ++ y) x.parts in
       let n : drop (i + 1) s ≡ x.power ++ y = here_next s i (x.letter ∷ []) (x.power ++ y) g in
       let bare : length x.whole.digits ≡ 0 → is_sign (get_or y 0 0) ≡ false = λ k. absurd (omega (arith, k, x.some_digit)) in
       let m : i + 1 + length x.power ≡ i + length w = omega (arith, ap length x.parts) in
       rw (here_get s i (x.letter ∷ (x.power ++ y)) g, x.is_e, whole_some s (i + 1) x.power y n x.whole z.no_digit bare x.some_digit, whole_read s (i + 1) x.power y n x.whole z.no_digit bare)
-      (ap At m))
+      (ap Some m))
       c
 
 -- a number, and what does not go on with it
@@ -164,7 +164,7 @@ module _ (s : List ℕ) (at : ℕ) (t y : List ℕ) (h : drop at s ≡ t ++ y) (
       (fraction_some s (at + length n.front) n.back (n.power ++ y) back n.fraction fraction_stops fraction_dot (omega (arith, k, n.some_digit))))
       (less_or_not 0 (length n.whole.digits))
 
-  mantissa_read : mantissa s at ≡ At (at + length n.front + length n.back)
+  mantissa_read : mantissa s at ≡ Some (at + length n.front + length n.back)
   unfolding mantissa
   mantissa_read =
       rw (whole_read s at n.front (n.back ++ (n.power ++ y)) front n.whole stops bare, some, fraction_read s (at + length n.front) n.back (n.power ++ y) back n.fraction fraction_stops fraction_dot)
@@ -172,11 +172,11 @@ module _ (s : List ℕ) (at : ℕ) (t y : List ℕ) (h : drop at s ≡ t ++ y) (
   long' : length t ≡ length n.front + (length n.back + length n.power)
   long' = ap length n.parts ∙ length-append n.front (n.back ++ n.power) ∙ ap (λ (k : ℕ). length n.front + k) (length-append n.back n.power)
 
-  number_is : number s at ≡ At (at + length t)
+  number_is : number s at ≡ Some (at + length t)
   unfolding number with_exponent
   number_is =
       rw mantissa_read
-      (exponent_read y z s (at + length n.front + length n.back) n.power power n.exponent ∙ ap At (omega (arith, long')))
+      (exponent_read y z s (at + length n.front + length n.back) n.power power n.exponent ∙ ap Some (omega (arith, long')))
 
   pub nrf_read : nrf s at ≡ token (DecimalNumericProgramData (view_of at (at + length t))) (at + length t)
   unfolding nrf number_to

@@ -1,4 +1,5 @@
 -- What an accepted item tells of the tests on its way, and of its view.
+use Rattle.std.specs.Prelude.{Result}
 use Prim.Native.Nat.{ℕ, ◌+◌, ◌-◌, ◌≤◌, ◌<◌}
 use mathlib.Core.Path.{◌≡◌, refl, sym, ap, ◌∙◌}
 use mathlib.Core.List.{List, ◌++◌}
@@ -17,23 +18,23 @@ use Rattle.util.proofs.{Every.every_run_front, Every.run_within, Runs.run_from, 
 use Rattle.token.specs.{View.view_of, View.part_of, declared.Token.Token}
 use Rattle.item.specs.Follow.{token, refused, ends_data, followed}
 use Rattle.forms.specs.ItemForm.{Ended}
-use Rattle.item.specs.declared.Read.{Read}
+use Rattle.forms.proofs.Pairs.{ok_pair}
 
 module _ (t : Token) (next : ℕ) where
   pub only_token : (r : ErrorCode) → refused r ≡ token t next → ⊥
   only_token r h = let z : ◌≡◌ {A = ℕ} 0 1 = cc in omega arith
 
-  pub only_then : (c : Bool) (x : Read) (e : ErrorCode) → cond c x (refused e) ≡ token t next → (c ≡ true) × (x ≡ token t next)
+  pub only_then : (c : Bool) (x : Result (Token × ℕ) ErrorCode) (e : ErrorCode) → cond c x (refused e) ≡ token t next → (c ≡ true) × (x ≡ token t next)
   only_then true x e h = (refl, h)
   only_then false x e h = absurd (only_token e h)
 
-  pub only_else : (c : Bool) (y : Read) (e : ErrorCode) → cond c (refused e) y ≡ token t next → (c ≡ false) × (y ≡ token t next)
+  pub only_else : (c : Bool) (y : Result (Token × ℕ) ErrorCode) (e : ErrorCode) → cond c (refused e) y ≡ token t next → (c ≡ false) × (y ≡ token t next)
   only_else true y e h = absurd (only_token e h)
   only_else false y e h = (refl, h)
 
   pub only_followed : (u : Token) (e : ErrorCode) (s : List ℕ) (end : ℕ) → followed u e s end ≡ token t next → u ≡ t
   unfolding followed
-  only_followed u e s end h = cc (only_then (ends_data s (run_end is_white_space s end)) (token u (run_end is_white_space s end)) e h).1
+  only_followed u e s end h = (ok_pair (only_then (ends_data s (run_end is_white_space s end)) (token u (run_end is_white_space s end)) e h).1).0
 
 -- the part of a text from one place up to another
 abbrev pub part : List ℕ → ℕ → ℕ → List ℕ
@@ -82,7 +83,7 @@ unfolding followed
 ended t u e s end next h =
     let w : ℕ = run_end is_white_space s end in
     let c = only_then t next (ends_data s w) (token u w) e h in
-    let n : w ≡ next = cc in
+    let n : w ≡ next = (ok_pair c.1).1 in
     let k : end ≤ w = run_from is_white_space s end in
     let f : end + (w - end) ≡ w = omega (arith, k) in
     record {

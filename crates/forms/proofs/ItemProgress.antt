@@ -1,4 +1,5 @@
 -- What is read at a place ends after it: no token is empty. What a separator leads to lies at the place after it or further on.
+use Rattle.std.specs.Prelude.{Result, Ok, Err, Option, Some, None}
 use Prim.Native.Nat.{ℕ, ◌+◌, ◌-◌, ◌<◌, ◌≤◌, ◌^◌}
 use mathlib.Core.Path.{◌≡◌}
 use mathlib.Core.List.{List}
@@ -12,17 +13,15 @@ use Rattle.kind.proofs.Tests.{by_test, either, and_left}
 use Rattle.util.specs.Run.{run_end, stands_at, sign_end, every}
 use Rattle.util.proofs.Runs.{run_from, run_more}
 use Rattle.token.specs.declared.Token.{Token}
-use Rattle.item.specs.{Follow.ends_data, Follow.followed, declared.Read.Read, Follow.refused}
+use Rattle.item.specs.{Follow.ends_data, Follow.followed, Follow.refused}
 use Rattle.item.specs.Word.{star_end, mnemonic, character_data}
 use Rattle.item.proofs.Words.{star_there'}
 use mathlib.Core.Logic.{⊎_elim}
 use borrow.Author.Tests.{ltb-true, ltb-false}
 use Rattle.token.specs.declared.View.{View}
 use Rattle.decimal.specs.Decimal.{whole_end, has_whole, fraction_end, has_fraction, mantissa, begins_exponent, exponent, with_exponent, number, number_to, nrf, in_suffix, begins_suffix, suffixed, suffix_data, numeric_to, numeric_data}
-use Rattle.decimal.specs.declared.Place.{Place}
-use Rattle.decimal.specs.declared.Place.TheVariants.{At, Nowhere}
 use Rattle.decimal.proofs.Decimals.{fraction_from}
-use Rattle.integer.specs.{Digit.value_of, declared.Radix.Radix, declared.Unsigned.Unsigned}
+use Rattle.integer.specs.{Digit.value_of, declared.Radix.Radix}
 use Rattle.integer.specs.Number.{base_of, digits, found_at, unsigned_of, unsigned_at}
 use Rattle.integer.specs.declared.Radix.TheVariants.{Binary, Octal, Hexadecimal}
 use Rattle.hash.specs.Nondecimal.{nondecimal_of, nondecimal_data}
@@ -30,12 +29,12 @@ use Rattle.hash.specs.Block.{payload, definite, indefinite, arbitrary_data, hash
 use Rattle.enclosed.specs.String.{in_string, string_end, closed, string_data}
 use Rattle.enclosed.specs.Expression.{in_expression, bracketed, expression_data}
 use Rattle.separator.specs.Separator.{newline_to, follows_colon, colon_to, follows_query, question_to, item_at, comma_to}
-use Rattle.separator.specs.{declared.Pass.Pass, declared.Pass.TheVariants.To, declared.Pass.TheVariants.Refused}
+use Rattle.integer.specs.declared.NumberError.{NumberError}
 
 -- a token that was read ends behind a place
-abbrev pub Behind : ℕ → Read → Type 0
-Behind at (Read.Token t next) = at < next
-Behind at (Read.Refused e) = Unit {0}
+abbrev pub Behind : ℕ → Result (Token × ℕ) ErrorCode → Type 0
+Behind at (Ok (t, next)) = at < next
+Behind at (Err e) = Unit {0}
 
 -- a run that its first byte is of moves
 pub run_moves : (p : ℕ → Bool) (s : List ℕ) (i : ℕ) → i < length s → p (get_or s i 0) ≡ true → i < run_end p s i
@@ -71,9 +70,9 @@ module _ (s : List ℕ) (at : ℕ) where
           (λ _. followed_behind _ _ (run_end in_mnemonic s at) (run_moves in_mnemonic s at h e)) (λ _. tt)
 
 -- the end of a decimal number lies after a place
-abbrev Ends : ℕ → Place → Type 0
-Ends at (At end) = at < end
-Ends at Nowhere = Unit {0}
+abbrev Ends : ℕ → Option ℕ → Type 0
+Ends at (Some end) = at < end
+Ends at None = Unit {0}
 
 pub sign_from : (s : List ℕ) (at : ℕ) → at ≤ sign_end s at
 unfolding sign_end
@@ -104,10 +103,10 @@ module _ (s : List ℕ) (at : ℕ) where
       by_test (Ends at) (begins_exponent (get_or s end 0))
       (λ _. by_test (Ends at) (has_whole s (end + 1)) (λ _. omega (arith, h, whole_from s (end + 1))) (λ _. tt)) (λ _. h)
 
-  with_exponent_lem : (p : Place) → Ends at p → Ends at (with_exponent s p)
+  with_exponent_lem : (p : Option ℕ) → Ends at p → Ends at (with_exponent s p)
   unfolding with_exponent
-  with_exponent_lem (At end) h = exponent_ends end h
-  with_exponent_lem Nowhere h = tt
+  with_exponent_lem (Some end) h = exponent_ends end h
+  with_exponent_lem None h = tt
 
   suffix_behind : (v : View) → at < v.end → Behind at (suffix_data s v)
   unfolding suffix_data suffixed
@@ -119,10 +118,10 @@ module _ (s : List ℕ) (at : ℕ) where
       from : ℕ
       from = run_end is_white_space s v.end
 
-  numeric_to_lem : (p : Place) → Ends at p → Behind at (numeric_to s at p)
+  numeric_to_lem : (p : Option ℕ) → Ends at p → Behind at (numeric_to s at p)
   unfolding numeric_to
-  numeric_to_lem (At end) h = suffix_behind _ h
-  numeric_to_lem Nowhere h = tt
+  numeric_to_lem (Some end) h = suffix_behind _ h
+  numeric_to_lem None h = tt
 
   number_ends : Ends at (number s at)
   unfolding number
@@ -132,29 +131,29 @@ module _ (s : List ℕ) (at : ℕ) where
   unfolding numeric_data
   numeric_behind = numeric_to_lem (number s at) number_ends
 
-  number_to_lem : (p : Place) → Ends at p → Behind at (number_to at p)
+  number_to_lem : (p : Option ℕ) → Ends at p → Behind at (number_to at p)
   unfolding number_to
-  number_to_lem (At end) h = h
-  number_to_lem Nowhere h = tt
+  number_to_lem (Some end) h = h
+  number_to_lem None h = tt
 
   pub nrf_behind : Behind at (nrf s at)
   unfolding nrf
   nrf_behind = number_to_lem (number s at) number_ends
 
 -- what holds of every refusal, and of every number with what follows it, holds of numeric data
-pub by_end : (s : List ℕ) (at : ℕ) (P : Read → Type 0) → ((e : ErrorCode) → P (refused e)) → ((v : View) → P (suffix_data s v)) → P (numeric_data s at)
+pub by_end : (s : List ℕ) (at : ℕ) (P : Result (Token × ℕ) ErrorCode → Type 0) → ((e : ErrorCode) → P (refused e)) → ((v : View) → P (suffix_data s v)) → P (numeric_data s at)
 unfolding numeric_data numeric_to
 by_end s at P r f = go (number s at)
   where
-    go : (p : Place) → P (numeric_to s at p)
-    go (At end) = f _
-    go Nowhere = r _
+    go : (p : Option ℕ) → P (numeric_to s at p)
+    go (Some end) = f _
+    go None = r _
 
 -- the digits of a number of another base end after a place
-abbrev Found : ℕ → Unsigned → Type 0
-Found at (Unsigned.Value v end) = at < end
-Found at Unsigned.NoDigit = Unit {0}
-Found at Unsigned.TooLarge = Unit {0}
+abbrev Found : ℕ → Result (ℕ × ℕ) NumberError → Type 0
+Found at (Ok (v, end)) = at < end
+Found at (Err NumberError.NoDigit) = Unit {0}
+Found at (Err NumberError.TooLarge) = Unit {0}
 
 module _ (s : List ℕ) (at : ℕ) where
   -- an item of data that begins at a place after another
@@ -168,11 +167,11 @@ module _ (s : List ℕ) (at : ℕ) where
         ds : List ℕ
         ds = digits (base_of radix) (drop i s)
 
-    nondecimal_of_lem : (u : Unsigned) → Found at u → Behind at (nondecimal_of s i u)
+    nondecimal_of_lem : (u : Result (ℕ × ℕ) NumberError) → Found at u → Behind at (nondecimal_of s i u)
     unfolding nondecimal_of
-    nondecimal_of_lem (Unsigned.Value v end) k = followed_behind s at _ _ end k
-    nondecimal_of_lem Unsigned.TooLarge k = tt
-    nondecimal_of_lem Unsigned.NoDigit k = by_test (Behind at) (leb (length s) i) (λ _. tt) (λ _. tt)
+    nondecimal_of_lem (Ok (v, end)) k = followed_behind s at _ _ end k
+    nondecimal_of_lem (Err NumberError.TooLarge) k = tt
+    nondecimal_of_lem (Err NumberError.NoDigit) k = by_test (Behind at) (leb (length s) i) (λ _. tt) (λ _. tt)
 
     nondecimal_behind : (radix : Radix) → Behind at (nondecimal_data radix s i)
     unfolding nondecimal_data
@@ -235,9 +234,9 @@ module _ (s : List ℕ) (at i : ℕ) (h : at < i) where
       end = i + in_string q (drop i s)
 
 -- a place that a separator leads to is not before another
-abbrev pub From : ℕ → Pass → Type 0
-From at (To next) = at ≤ next
-From at (Refused e) = Unit {0}
+abbrev pub From : ℕ → Result ℕ ErrorCode → Type 0
+From at (Ok next) = at ≤ next
+From at (Err e) = Unit {0}
 
 module _ (s : List ℕ) (next : ℕ) where
   pub newline_ends : From (length s) (newline_to s next)

@@ -1,3 +1,4 @@
+pub mod Pairs
 pub mod OfKind
 pub mod IntegerClaims
 pub mod ItemAccepted

@@ -1,4 +1,5 @@
 -- Laws of blocks and of what else a `#` begins, as the code meets them.
+use Rattle.std.specs.Prelude.{Result}
 use Prim.Native.Nat.{ℕ, ◌+◌, ◌-◌, ◌≤◌, ◌<◌}
 use mathlib.Core.Path.{◌≡◌, sym, ◌∙◌}
 use mathlib.Core.Logic.{◌⊎◌, inl, inr, ⊎_elim}
@@ -15,9 +16,10 @@ use Rattle.kind.proofs.Tests.{and_left}
 use Rattle.integer.specs.declared.Radix.TheVariants.{Binary, Octal, Hexadecimal}
 use Rattle.token.specs.{View.view_of, declared.Token.TheVariants.ArbitraryBlockData}
 use Rattle.item.specs.Follow.{token, refused, followed}
-use Rattle.item.specs.declared.Read.{Read}
 use Rattle.hash.specs.Nondecimal.{nondecimal_data}
 use Rattle.hash.specs.Block.{payload, definite, indefinite, arbitrary_data, hash_by, hash_data}
+use Rattle.error.specs.declared.ErrorCode.{ErrorCode}
+use Rattle.token.specs.declared.Token.{Token}
 
 module _ (s : List ℕ) (start n : ℕ) where
   pub payload_outside' : length s < start → refused InvalidBlockData ≡ payload s start n
@@ -29,7 +31,7 @@ module _ (s : List ℕ) (start n : ℕ) where
     unfolding payload
     payload_short' k = let m : length s < start + n = omega arith in rw (lt-leb (start + n) (length s) m)
 
-    pub payload_whole' : n ≤ length s - start → (end : ℕ) → end ≡ start + n → (r : Read)
+    pub payload_whole' : n ≤ length s - start → (end : ℕ) → end ≡ start + n → (r : Result (Token × ℕ) ErrorCode)
         → r ≡ followed (ArbitraryBlockData (view_of start end)) SuffixNotAllowed s end → r ≡ payload s start n
     unfolding payload
     payload_whole' k end e r er = let m : start + n ≤ length s = omega arith in er ∙ rw (e, le-leb (start + n) (length s) m)
@@ -54,7 +56,7 @@ module _ (b : ℕ) (s : List ℕ) (at : ℕ) (r : Bool) (er : r ≡ is_digit b) 
   block_ill' q = rw (← er, not-true r q)
 
   module _ (q : not r ≡ false) where
-    pub block_rest' : b ≡ 48 → (x : Read) → x ≡ indefinite s at → x ≡ arbitrary_data b s at
+    pub block_rest' : b ≡ 48 → (x : Result (Token × ℕ) ErrorCode) → x ≡ indefinite s at → x ≡ arbitrary_data b s at
     unfolding arbitrary_data
     block_rest' e x ex = ex ∙ rw (← er, not-false r q, eq-eqb b 48 e)
 
@@ -66,7 +68,7 @@ module _ (b : ℕ) (s : List ℕ) (at : ℕ) (r : Bool) (er : r ≡ is_digit b) 
     pub format_some' : (b ≡ 48 → ⊥) → (n : ℕ) → n ≡ b - 48 → 0 < n
     format_some' m n e = omega (arith, format_from', m, e)
 
-    pub block_digits' : (b ≡ 48 → ⊥) → (n : ℕ) → n ≡ b - 48 → (x : Read) → x ≡ definite s at n → x ≡ arbitrary_data b s at
+    pub block_digits' : (b ≡ 48 → ⊥) → (n : ℕ) → n ≡ b - 48 → (x : Result (Token × ℕ) ErrorCode) → x ≡ definite s at n → x ≡ arbitrary_data b s at
     unfolding arbitrary_data
     block_digits' m n e x ex = ex ∙ rw (← er, not-false r q, ne_eqb b 48 m, e)
 
@@ -80,20 +82,20 @@ module _ (s : List ℕ) (at : ℕ) where
     unfolding hash_data
     by_byte = rw (lt-leb (length s) at h)
 
-    pub hash_digit' : r ≡ true → (x : Read) → x ≡ arbitrary_data (get_or s at 0) s (at + 1) → x ≡ hash_data s at
+    pub hash_digit' : r ≡ true → (x : Result (Token × ℕ) ErrorCode) → x ≡ arbitrary_data (get_or s at 0) s (at + 1) → x ≡ hash_data s at
     unfolding hash_by
     hash_digit' q x ex = ex ∙ sym (by_byte ∙ rw (← er, q))
 
     module _ (q : r ≡ false) where
-      pub hash_hex' : (get_or s at 0 ≡ 72) ⊎ (get_or s at 0 ≡ 104) → (x : Read) → x ≡ nondecimal_data Hexadecimal s (at + 1) → x ≡ hash_data s at
+      pub hash_hex' : (get_or s at 0 ≡ 72) ⊎ (get_or s at 0 ≡ 104) → (x : Result (Token × ℕ) ErrorCode) → x ≡ nondecimal_data Hexadecimal s (at + 1) → x ≡ hash_data s at
       unfolding hash_by is_digit
       hash_hex' o x ex = ex ∙ sym (by_byte ∙ ⊎_elim (λ e. rw e) (λ e. rw e) o)
 
-      pub hash_octal' : (get_or s at 0 ≡ 81) ⊎ (get_or s at 0 ≡ 113) → (x : Read) → x ≡ nondecimal_data Octal s (at + 1) → x ≡ hash_data s at
+      pub hash_octal' : (get_or s at 0 ≡ 81) ⊎ (get_or s at 0 ≡ 113) → (x : Result (Token × ℕ) ErrorCode) → x ≡ nondecimal_data Octal s (at + 1) → x ≡ hash_data s at
       unfolding hash_by is_digit
       hash_octal' o x ex = ex ∙ sym (by_byte ∙ ⊎_elim (λ e. rw e) (λ e. rw e) o)
 
-      pub hash_binary' : (get_or s at 0 ≡ 66) ⊎ (get_or s at 0 ≡ 98) → (x : Read) → x ≡ nondecimal_data Binary s (at + 1) → x ≡ hash_data s at
+      pub hash_binary' : (get_or s at 0 ≡ 66) ⊎ (get_or s at 0 ≡ 98) → (x : Result (Token × ℕ) ErrorCode) → x ≡ nondecimal_data Binary s (at + 1) → x ≡ hash_data s at
       unfolding hash_by is_digit
       hash_binary' o x ex = ex ∙ sym (by_byte ∙ ⊎_elim (λ e. rw e) (λ e. rw e) o)
 

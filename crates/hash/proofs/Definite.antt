@@ -1,6 +1,7 @@
 -- Laws of the length that a definite block says, as the code meets them.
+use Rattle.std.specs.Prelude.{Result, Ok, Err}
 use Prim.Native.Nat.{ℕ, ◌+◌, ◌-◌, ◌*◌, ◌^◌, ◌≤◌, ◌<◌}
-use mathlib.Core.Path.{◌≡◌, refl, sym, ◌∙◌}
+use mathlib.Core.Path.{◌≡◌, refl, sym, ap, ◌∙◌}
 use mathlib.Core.Logic.{⊎_elim}
 use mathlib.Core.List.{List}
 use mathlib.Core.Bool.{Bool, true, false, cond}
@@ -15,19 +16,22 @@ use Rattle.kind.specs.Class.{is_digit}
 use Rattle.kind.proofs.Tests.{by_test, less_or_not}
 use Rattle.util.specs.Run.{run, every}
 use Rattle.util.proofs.Every.{every_weaker, every_run, run_every}
-use Rattle.integer.specs.{Digit.is_digit_of, Digit.value_of, declared.Radix.TheVariants.Decimal, declared.Unsigned.Unsigned}
+use Rattle.integer.specs.{Digit.is_digit_of, Digit.value_of, declared.Radix.TheVariants.Decimal}
 use Rattle.integer.specs.Number.{digits, found_at, unsigned_of, unsigned_at}
-use Rattle.integer.specs.declared.Unsigned.TheVariants.{Value, NoDigit, TooLarge}
 use Rattle.integer.proofs.{Digits.decimal, Values.taken}
-use Rattle.item.specs.{Follow.refused, declared.Read.Read}
+use Rattle.item.specs.{Follow.refused}
 use Rattle.hash.specs.Block.{payload, definite}
+use Rattle.error.specs.declared.ErrorCode.{ErrorCode}
+use Rattle.integer.specs.declared.NumberError.{NumberError}
+use Rattle.token.specs.declared.Token.{Token}
 
 -- the place behind a number is that behind its digits
-ends : (base at v end : ℕ) (ds : List ℕ) → Value v end ≡ unsigned_of base at ds → end ≡ at + length ds
+ends : (base at v end : ℕ) (ds : List ℕ) → Ok (v, end) ≡ unsigned_of base at ds → end ≡ at + length ds
 unfolding unsigned_of found_at
 ends base at v end ds =
-    by_test (λ (w : Unsigned). Value v end ≡ w → end ≡ at + length ds) (ltb (value_of base ds) (2 ^ 64))
-    (λ _. by_test (λ (w : Unsigned). Value v end ≡ w → end ≡ at + length ds) (eqb (at + length ds) at) (λ _ e. let z : ◌≡◌ {A = ℕ} 0 1 = cc in absurd (omega arith)) (λ _ e. cc)) (λ _ e. let z : ◌≡◌ {A = ℕ} 0 1 = cc in absurd (omega arith))
+    by_test (λ (w : Result (ℕ × ℕ) NumberError). Ok (v, end) ≡ w → end ≡ at + length ds) (ltb (value_of base ds) (2 ^ 64))
+    (λ _. by_test (λ (w : Result (ℕ × ℕ) NumberError). Ok (v, end) ≡ w → end ≡ at + length ds) (eqb (at + length ds) at) (λ _ e. let z : ◌≡◌ {A = ℕ} 0 1 = cc in absurd (omega arith))
+    (λ _ e. let z : ◌≡◌ {A = ℕ × ℕ} (v, end) (value_of base ds, at + length ds) = cc in ap (λ (p : ℕ × ℕ). p.1) z)) (λ _ e. let z : ◌≡◌ {A = ℕ} 0 1 = cc in absurd (omega arith))
 
 module _ (s : List ℕ) (at n : ℕ) (h : at ≤ length s) (k : n ≤ length s - at) where
   -- the n bytes that say the length
@@ -46,7 +50,7 @@ module _ (s : List ℕ) (at n : ℕ) (h : at ≤ length s) (k : n ≤ length s -
   -- digits alone are read to their end
   all_digits : 0 < n → every is_digit (take n (drop at s)) ≡ true
       → unsigned_at Decimal (take (at + n) s) at
-      ≡ cond (ltb (value_of 10 (take n (drop at s))) (2 ^ 64)) (Value (value_of 10 (take n (drop at s))) (at + n)) TooLarge
+      ≡ cond (ltb (value_of 10 (take n (drop at s))) (2 ^ 64)) (Ok (value_of 10 (take n (drop at s)), at + n)) (Err NumberError.TooLarge)
   unfolding unsigned_at unsigned_of found_at digits
   all_digits m e =
       rw (
@@ -58,7 +62,7 @@ module _ (s : List ℕ) (at n : ℕ) (h : at ≤ length s) (k : n ≤ length s -
       )
 
   -- and what is read to their end is digits alone
-  only_digits : (v end : ℕ) → Value v end ≡ unsigned_at Decimal (take (at + n) s) at → end ≡ at + n → every is_digit (take n (drop at s)) ≡ true
+  only_digits : (v end : ℕ) → Ok (v, end) ≡ unsigned_at Decimal (take (at + n) s) at → end ≡ at + n → every is_digit (take n (drop at s)) ≡ true
   unfolding unsigned_at digits
   only_digits v end e q =
       let f : end ≡ at + length (take (run (is_digit_of 10) (take n (drop at s))) (take n (drop at s))) =
@@ -74,18 +78,18 @@ module _ (s : List ℕ) (at n : ℕ) (h : at ≤ length s) (k : n ≤ length s -
   by_digits c e = rw (le-leb (at + n) (length s) inside, e)
 
 module _ (s : List ℕ) (at n : ℕ) (h : at ≤ length s) (k : n ≤ length s - at) (m : 0 < n) (start : ℕ) (es : start ≡ at + n)
-    (u : Unsigned) (eu : u ≡ unsigned_at Decimal (take start s) at) where
+    (u : Result (ℕ × ℕ) NumberError) (eu : u ≡ unsigned_at Decimal (take start s) at) where
   told : u ≡ unsigned_at Decimal (take (at + n) s) at
   told = rw (← es) eu
 
   -- where all n bytes are digits, the number is their value, or too large
-  of_digits : every is_digit (take n (drop at s)) ≡ true → u ≡ cond (ltb (value_of 10 (take n (drop at s))) (2 ^ 64)) (Value (value_of 10 (take n (drop at s))) (at + n)) TooLarge
+  of_digits : every is_digit (take n (drop at s)) ≡ true → u ≡ cond (ltb (value_of 10 (take n (drop at s))) (2 ^ 64)) (Ok (value_of 10 (take n (drop at s)), at + n)) (Err NumberError.TooLarge)
   of_digits e = told ∙ all_digits s at n h k m e
 
-  of_small : every is_digit (take n (drop at s)) ≡ true → value_of 10 (take n (drop at s)) < 2 ^ 64 → u ≡ Value (value_of 10 (take n (drop at s))) (at + n)
+  of_small : every is_digit (take n (drop at s)) ≡ true → value_of 10 (take n (drop at s)) < 2 ^ 64 → u ≡ Ok (value_of 10 (take n (drop at s)), at + n)
   of_small e l = of_digits e ∙ rw (lt-ltb (value_of 10 (take n (drop at s))) (2 ^ 64) l)
 
-  of_large : every is_digit (take n (drop at s)) ≡ true → 2 ^ 64 ≤ value_of 10 (take n (drop at s)) → u ≡ TooLarge
+  of_large : every is_digit (take n (drop at s)) ≡ true → 2 ^ 64 ≤ value_of 10 (take n (drop at s)) → u ≡ Err NumberError.TooLarge
   of_large e l = of_digits e ∙ rw (le-ltb (value_of 10 (take n (drop at s))) (2 ^ 64) l)
 
   -- where they are not, the block is refused
@@ -102,13 +106,15 @@ module _ (s : List ℕ) (at n : ℕ) (h : at ≤ length s) (k : n ≤ length s -
       go false e = not_digits e
       go true e = ⊎_elim (f e) (g e) (less_or_not (value_of 10 (take n (drop at s))) (2 ^ 64))
 
-  pub digits_cut' : (v end : ℕ) → u ≡ Value v end → (end ≡ start → ⊥) → refused InvalidBlockData ≡ definite s at n
-  digits_cut' v end q away = either_way (λ e l. absurd (away (cc (of_small e l)))) (λ e l. let z : ◌≡◌ {A = ℕ} 0 1 = cc (of_large e l) in absurd (omega arith))
+  pub digits_cut' : (v end : ℕ) → u ≡ Ok (v, end) → (end ≡ start → ⊥) → refused InvalidBlockData ≡ definite s at n
+  digits_cut' v end q away = either_way
+      (λ e l. let z : ◌≡◌ {A = ℕ × ℕ} (v, end) (value_of 10 (take n (drop at s)), at + n) = cc (sym q ∙ of_small e l) in
+      absurd (away (ap (λ (p : ℕ × ℕ). p.1) z ∙ sym es))) (λ e l. let z : ◌≡◌ {A = ℕ} 0 1 = cc (of_large e l) in absurd (omega arith))
 
-  pub digits_none' : u ≡ NoDigit → refused InvalidBlockData ≡ definite s at n
+  pub digits_none' : u ≡ Err NumberError.NoDigit → refused InvalidBlockData ≡ definite s at n
   digits_none' q = either_way (λ e l. let z : ◌≡◌ {A = ℕ} 0 1 = cc (of_small e l) in absurd (omega arith)) (λ e l. let z : ◌≡◌ {A = ℕ} 0 1 = cc (of_large e l) in absurd (omega arith))
 
-  pub digits_large' : length s * 1 < 2 ^ 63 → u ≡ TooLarge → refused InvalidBlockData ≡ definite s at n
+  pub digits_large' : length s * 1 < 2 ^ 63 → u ≡ Err NumberError.TooLarge → refused InvalidBlockData ≡ definite s at n
   unfolding payload
   digits_large' room q =
       either_way (λ e l. let z : ◌≡◌ {A = ℕ} 0 1 = cc (of_small e l) in absurd (omega arith))
@@ -116,12 +122,13 @@ module _ (s : List ℕ) (at n : ℕ) (h : at ≤ length s) (k : n ≤ length s -
       let over : length s < at + n + value_of 10 (take n (drop at s)) = omega arith in
       sym (by_digits s at n h k true e ∙ rw (lt-leb (at + n + value_of 10 (take n (drop at s))) (length s) over)))
 
-  pub digits_whole' : (v end : ℕ) → u ≡ Value v end → end ≡ start → (r : Read) → r ≡ payload s start v → r ≡ definite s at n
+  pub digits_whole' : (v end : ℕ) → u ≡ Ok (v, end) → end ≡ start → (r : Result (Token × ℕ) ErrorCode) → r ≡ payload s start v → r ≡ definite s at n
   digits_whole' v end q ee r er =
       let e : every is_digit (take n (drop at s)) ≡ true = only_digits s at n h k v end (sym q ∙ told) (ee ∙ es) in
       ⊎_elim
       (λ l.
-      let w : v ≡ value_of 10 (take n (drop at s)) = cc (of_small e l) in
+      let z : ◌≡◌ {A = ℕ × ℕ} (v, end) (value_of 10 (take n (drop at s)), at + n) = cc (sym q ∙ of_small e l) in
+      let w : v ≡ value_of 10 (take n (drop at s)) = ap (λ (p : ℕ × ℕ). p.0) z in
       er ∙ sym (by_digits s at n h k true e ∙ rw (es, w)))
       (λ l. let z : ◌≡◌ {A = ℕ} 0 1 = cc (of_large e l) in absurd (omega arith))
       (less_or_not (value_of 10 (take n (drop at s))) (2 ^ 64))

@@ -6,7 +6,7 @@ ghost use Rattle.hash.specs.Nondecimal.{nondecimal_data};
 ghost use Rattle.hash.specs.Block.{payload, definite, indefinite, arbitrary_data, hash_data};
 
 use error::ErrorCode;
-use integer::{Radix, Unsigned};
+use integer::{NumberError, Radix};
 use item::Read;
 use token::{Token, View};
 
@@ -15,7 +15,7 @@ pub fn read_hash_data(s: &[u8], at: usize) -> Read
     ensures { result ≡ hash_data s.now at }
 {
     if s.len() <= at {
-        return Read::Refused(ErrorCode::BlockDataError);
+        return Err(ErrorCode::BlockDataError);
     }
     let format = s[at];
     if kind::is_digit(format) {
@@ -25,7 +25,7 @@ pub fn read_hash_data(s: &[u8], at: usize) -> Read
         b'H' | b'h' => read_nondecimal_data(s, at + 1, Radix::Hexadecimal),
         b'Q' | b'q' => read_nondecimal_data(s, at + 1, Radix::Octal),
         b'B' | b'b' => read_nondecimal_data(s, at + 1, Radix::Binary),
-        _ => Read::Refused(ErrorCode::NumericDataError),
+        _ => Err(ErrorCode::NumericDataError),
     }
 }
 
@@ -34,18 +34,18 @@ pub fn read_nondecimal_data(s: &[u8], at: usize, radix: Radix) -> Read
     ensures { result ≡ nondecimal_data radix s.now at }
 {
     match integer::read_unsigned(s, at, radix) {
-        Unsigned::Value { value, end } => item::skip_ws_to_separator(
+        Ok((value, end)) => item::skip_ws_to_separator(
             s,
             end,
             Token::NonDecimalNumericProgramData(value),
             ErrorCode::SuffixNotAllowed,
         ),
-        Unsigned::TooLarge => Read::Refused(ErrorCode::DataOutOfRange),
-        Unsigned::NoDigit => {
+        Err(NumberError::TooLarge) => Err(ErrorCode::DataOutOfRange),
+        Err(NumberError::NoDigit) => {
             if s.len() <= at {
-                Read::Refused(ErrorCode::NumericDataError)
+                Err(ErrorCode::NumericDataError)
             } else {
-                Read::Refused(ErrorCode::InvalidCharacterInNumber)
+                Err(ErrorCode::InvalidCharacterInNumber)
             }
         }
     }
@@ -56,7 +56,7 @@ pub fn read_arbitrary_data(s: &[u8], at: usize, format: u8) -> Read
     ensures { result ≡ arbitrary_data format s.now at }
 {
     if !kind::is_digit(format) {
-        return Read::Refused(ErrorCode::InvalidBlockData);
+        return Err(ErrorCode::InvalidBlockData);
     }
     if format == b'0' {
         return read_indefinite(s, at);
@@ -70,22 +70,20 @@ fn read_definite(s: &[u8], at: usize, digits: usize) -> Read
     ensures { result ≡ definite s.now at digits }
 {
     if s.len() < at {
-        return Read::Refused(ErrorCode::InvalidBlockData);
+        return Err(ErrorCode::InvalidBlockData);
     }
     if s.len() - at < digits {
-        return Read::Refused(ErrorCode::InvalidBlockData);
+        return Err(ErrorCode::InvalidBlockData);
     }
     let start = at + digits;
     match integer::read_unsigned(&s[..start], at, Radix::Decimal) {
-        Unsigned::Value { value, end } => {
+        Ok((value, end)) => {
             if end != start {
-                Read::Refused(ErrorCode::InvalidBlockData)
-            } else {
-                read_payload(s, start, value as usize)
+                return Err(ErrorCode::InvalidBlockData);
             }
+            read_payload(s, start, value as usize)
         }
-        Unsigned::NoDigit => Read::Refused(ErrorCode::InvalidBlockData),
-        Unsigned::TooLarge => Read::Refused(ErrorCode::InvalidBlockData),
+        Err(_) => Err(ErrorCode::InvalidBlockData),
     }
 }
 
@@ -94,10 +92,10 @@ fn read_payload(s: &[u8], start: usize, length: usize) -> Read
     ensures { result ≡ payload s.now start length }
 {
     if s.len() < start {
-        return Read::Refused(ErrorCode::InvalidBlockData);
+        return Err(ErrorCode::InvalidBlockData);
     }
     if s.len() - start < length {
-        return Read::Refused(ErrorCode::InvalidBlockData);
+        return Err(ErrorCode::InvalidBlockData);
     }
     let end = start + length;
     item::skip_ws_to_separator(
@@ -113,14 +111,11 @@ fn read_indefinite(s: &[u8], at: usize) -> Read
     ensures { result ≡ indefinite s.now at }
 {
     if s.len() <= at {
-        return Read::Refused(ErrorCode::InvalidBlockData);
+        return Err(ErrorCode::InvalidBlockData);
     }
     let end = s.len() - 1;
     if s[end] != b'\n' {
-        return Read::Refused(ErrorCode::InvalidBlockData);
+        return Err(ErrorCode::InvalidBlockData);
     }
-    Read::Token {
-        token: Token::ArbitraryBlockData(View { start: at, end }),
-        next: s.len(),
-    }
+    Ok((Token::ArbitraryBlockData(View { start: at, end }), s.len()))
 }

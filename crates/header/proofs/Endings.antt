@@ -1,4 +1,5 @@
 -- What is ahead where a header ends, and what the header is then answered; laws as the code meets them.
+use Rattle.std.specs.Prelude.{Result, Ok}
 use Prim.Native.Nat.{ℕ, ◌+◌, ◌≤◌, ◌<◌}
 use mathlib.Core.Path.{◌≡◌, refl, sym, ap, ◌∙◌}
 use mathlib.Core.List.{List}
@@ -13,7 +14,6 @@ use Rattle.kind.proofs.Tests.{by_test, clash, or_right, either}
 use Rattle.util.specs.Run.{run_end, stands_at}
 use Rattle.util.proofs.Runs.{run_more}
 use Rattle.separator.specs.Separator.{follows_query, question_to}
-use Rattle.separator.specs.declared.Pass.TheVariants as pass
 use Rattle.node.specs.Word.{command_number}
 use Rattle.token.specs.declared.Token.TheVariants.{HeaderQuerySuffix, ProgramHeaderSeparator, ProgramMessageUnitSeparator}
 use Rattle.tokenizer.specs.{Step.state_of, declared.State.State}
@@ -21,9 +21,10 @@ use Rattle.ahead.specs.{Seen.seen_with, Seen.seen_at, declared.Stop.Stop, declar
 use Rattle.header.specs.Turn as turn
 use Rattle.header.specs.Header.{undefined, query_answer, leaf_answer, at_branch, turn_of}
 use Rattle.header.specs.Internal.{ahead_at, after_byte, halts, ends_at, is_ending, refused_by}
-use Rattle.header.specs.declared.Header.{Header}
 use Rattle.header.proofs.Looks.{taken_is', passed_to', end_seen', question_seen', space_seen', semicolon_seen'}
 use Rattle.header.proofs.Places.{inside, there}
+use Rattle.error.specs.declared.ErrorCode.{ErrorCode}
+use Rattle.header.specs.declared.Header.{Header}
 
 -- what ends a header at a place, and the place after that
 data Halted (s : List ℕ) (at : ℕ) : Stop → ℕ → Type 0 where
@@ -63,41 +64,41 @@ module _ (s : List ℕ) (p : ℕ) (common : Bool) where
   query_ahead : stands_at 63 s p ≡ true → follows_query s (p + 1) ≡ true → seen_with Ahead.Query (state_of (p + 1) false common) ≡ ahead_at s p common
   unfolding question_to
   query_ahead e f =
-      question_seen' s (state_of p true common) _ (inside s p 63 e) (pass.To (p + 1)) (there s p 63 e) (rw f)
-      (passed_to' s (state_of p true common) _ (pass.To (p + 1)) HeaderQuerySuffix false (p + 1) refl (taken_is' HeaderQuerySuffix (p + 1) false common Ahead.Query refl))
+      question_seen' s (state_of p true common) _ (inside s p 63 e) (Ok (p + 1)) (there s p 63 e) (rw f)
+      (passed_to' s (state_of p true common) _ (Ok (p + 1)) HeaderQuerySuffix false (p + 1) refl (taken_is' HeaderQuerySuffix (p + 1) false common Ahead.Query refl))
 
   module _ (w kept : ℕ) {x : Stop} {n : ℕ} where
-    plain_found : Halted s p x n → Header.Found (command_number w) false kept x n ≡ leaf_answer s w kept (ahead_at s p common)
+    plain_found : Halted s p x n → Ok (record { command = command_number w; query = false; branch = kept; stop = x; place = n }) ≡ leaf_answer s w kept (ahead_at s p common)
     unfolding leaf_answer
-    plain_found h = let z = seen s p true common h in ap (Header.Found (command_number w) false kept x) (sym z.place) ∙ ap (leaf_answer s w kept) z.is
+    plain_found h = let z = seen s p true common h in ap (λ p. Ok (record { command = command_number w; query = false; branch = kept; stop = x; place = p })) (sym z.place) ∙ ap (leaf_answer s w kept) z.is
 
-    query_found : stands_at 63 s p ≡ true → Halted s (p + 1) x n → Header.Found (command_number w) true kept x n ≡ leaf_answer s w kept (ahead_at s p common)
+    query_found : stands_at 63 s p ≡ true → Halted s (p + 1) x n → Ok (record { command = command_number w; query = true; branch = kept; stop = x; place = n }) ≡ leaf_answer s w kept (ahead_at s p common)
     unfolding leaf_answer query_answer
     query_found e h =
         let z = seen s (p + 1) false common h in
-        ap (Header.Found (command_number w) true kept x) (sym z.place) ∙ ap (query_answer w kept) z.is ∙ ap (leaf_answer s w kept) (query_ahead e (follows s (p + 1) h))
+        ap (λ p. Ok (record { command = command_number w; query = true; branch = kept; stop = x; place = p })) (sym z.place) ∙ ap (query_answer w kept) z.is ∙ ap (leaf_answer s w kept) (query_ahead e (follows s (p + 1) h))
 
-    found : (q : Bool) → stands_at 63 s p ≡ q → Halted s (after_byte 63 s p) x n → Header.Found (command_number w) q kept x n ≡ leaf_answer s w kept (ahead_at s p common)
+    found : (q : Bool) → stands_at 63 s p ≡ q → Halted s (after_byte 63 s p) x n → Ok (record { command = command_number w; query = q; branch = kept; stop = x; place = n }) ≡ leaf_answer s w kept (ahead_at s p common)
     unfolding after_byte
     found true e h = query_found e (rw e at h)
     found false e h = plain_found (rw e at h)
 
   module _ (w kept c : ℕ) (ec : c ≡ command_number w) (q : Bool) (eq : q ≡ stands_at 63 s p) (at : ℕ) (ea : at ≡ after_byte 63 s p) where
-    closes : (x : Stop) (n : ℕ) → Halted s at x n → Header.Found c q kept x n ≡ leaf_answer s w kept (ahead_at s p common)
+    closes : (x : Stop) (n : ℕ) → Halted s at x n → Ok (record { command = c; query = q; branch = kept; stop = x; place = n }) ≡ leaf_answer s w kept (ahead_at s p common)
     closes x n h = rw ec (found w kept q (sym eq) (rw ea at h))
 
-    pub text_closes' : length s ≤ at → Header.Found c q kept Stop.Text at ≡ leaf_answer s w kept (ahead_at s p common)
+    pub text_closes' : length s ≤ at → Ok (record { command = c; query = q; branch = kept; stop = Stop.Text; place = at }) ≡ leaf_answer s w kept (ahead_at s p common)
     text_closes' h = closes Stop.Text at (text h)
 
     module _ (h : at < length s) (n : ℕ) (en : n ≡ run_end is_white_space s (at + 1)) where
-      pub space_closes' : get_or s at 0 ≡ 32 → Header.Found c q kept Stop.Separator n ≡ leaf_answer s w kept (ahead_at s p common)
+      pub space_closes' : get_or s at 0 ≡ 32 → Ok (record { command = c; query = q; branch = kept; stop = Stop.Separator; place = n }) ≡ leaf_answer s w kept (ahead_at s p common)
       unfolding is_white_space
       space_closes' e = rw (en ∙ sym (run_more is_white_space s at h (rw e))) (closes Stop.Separator (run_end is_white_space s at) (space h e))
 
-      pub unit_closes' : get_or s at 0 ≡ 59 → Header.Found c q kept Stop.Unit n ≡ leaf_answer s w kept (ahead_at s p common)
+      pub unit_closes' : get_or s at 0 ≡ 59 → Ok (record { command = c; query = q; branch = kept; stop = Stop.Unit; place = n }) ≡ leaf_answer s w kept (ahead_at s p common)
       unit_closes' e = rw en (closes Stop.Unit (run_end is_white_space s (at + 1)) (semicolon h e))
 
-  pub other_closes' : (w kept : ℕ) (x : Seen) → x ≡ ahead_at s p common → (r : Header) → r ≡ leaf_answer s w kept x → r ≡ leaf_answer s w kept (ahead_at s p common)
+  pub other_closes' : (w kept : ℕ) (x : Seen) → x ≡ ahead_at s p common → (r : Result Header ErrorCode) → r ≡ leaf_answer s w kept x → r ≡ leaf_answer s w kept (ahead_at s p common)
   other_closes' w kept x e r h = h ∙ ap (leaf_answer s w kept) e
 
 pub ruleset ending_laws = (rules, text_closes', space_closes', unit_closes', other_closes')

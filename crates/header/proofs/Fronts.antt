@@ -1,4 +1,5 @@
 -- Laws of the front of a header, as the code meets them.
+use Rattle.std.specs.Prelude.{Result, Ok, Err, Option, Some, None}
 use Prim.Native.Nat.{ℕ, zero, suc, ◌+◌, ◌-◌, ◌≤◌, ◌<◌, zero-le, suc-le-suc}
 use mathlib.Core.Path.{◌≡◌, refl, sym, ap, subst, ◌∙◌}
 use mathlib.Core.Logic.{⊎_elim}
@@ -16,7 +17,7 @@ use Rattle.util.specs.Run.{stands_at}
 use Rattle.node.specs.{Word.is_branch, Tree.branch}
 use Rattle.node.proofs.Laws.{past_table}
 use Rattle.token.specs.{View.part_of, View.view_of, declared.View.View, declared.Token.Token}
-use Rattle.item.specs.{Word.star_end, Word.mnemonic, Follow.refused, declared.Read.Read}
+use Rattle.item.specs.{Word.star_end, Word.mnemonic, Follow.refused}
 use Rattle.forms.proofs.ItemAccepted.{run_most}
 use Rattle.tokenizer.specs.{Step.state_of, declared.State.State}
 use Rattle.ahead.specs.{Seen.seen_with, Seen.seen_at, declared.Stop.Stop, declared.Ahead.Ahead, declared.Seen.Seen}
@@ -24,11 +25,12 @@ use Rattle.spoken.specs.Spoken.{is_letter_at}
 use Rattle.header.specs.Header.{undefined, behind_query, query_answer, answer_at_leaf, leaf_answer, at_branch, turn_of, Reads, leaf, keeping, Begins, no_branch, first_refused, no_header, no_question, from_root, common, from_branch}
 use Rattle.header.specs.Header as headers
 use Rattle.header.specs.Internal.{ahead_at, begins, goes_on, front_of, kept_by, refused_by, bare, Arrives, arrives, strays, RootLeaf, root_leaf, root_branch, Empty, found, not_found, Otherwise}
-use Rattle.header.specs.{declared.Front.Front, declared.Header.Header}
 use Rattle.header.proofs.Places.{inside, there, stands, letter_there}
 use Rattle.header.proofs.Mnemonics.{mnemonic_next, met, refused_ahead, word_ahead, letter_next, colon_ahead, star_refused, star_word}
 use Rattle.header.proofs.{Settled.settles, Settled.lost, Walks.some_byte, Once.one_reading}
 use Rattle.header.proofs.Inverse.{no_mnemonic, last_colon, colon_place}
+use Rattle.header.specs.declared.Front.{Front}
+use Rattle.header.specs.declared.Header.{Header}
 
 -- the branch of a leaf's answer is the one that it is asked to keep
 kept_leaf : (s : List ℕ) (w g b : ℕ) (y : Seen) → keeping b (leaf_answer s w g y) ≡ leaf_answer s w b y
@@ -90,18 +92,18 @@ module _ (s : List ℕ) (p : ℕ) (w : stands_at 42 s p ≡ true) where
       go zero z = absurd (omega (arith, z))
       go (suc n) z = star_first n p s w
 
-  star_inside : (k : Token) (next : ℕ) → mnemonic s p ≡ Read.Token k next → next ≤ length s
+  star_inside : (k : Token) (next : ℕ) → mnemonic s p ≡ Ok (k, next) → next ≤ length s
   unfolding star_end
   star_inside k next e =
       let z = (mnemonic_next s p k next e).0 in
       rw (← z, w) (run_most s in_mnemonic (p + 1) (omega (arith, inside s p 42 w)))
 
 -- a token that is refused refuses the header, at a leaf too
-from_refused : (t names s : List ℕ) (h n : ℕ) (seen : Seen) (e : ErrorCode) → seen.ahead ≡ Ahead.Refused e → Reads t names s h n seen (Header.Refused e)
+from_refused : (t names s : List ℕ) (h n : ℕ) (seen : Seen) (e : ErrorCode) → seen.ahead ≡ Ahead.Refused e → Reads t names s h n seen (Err e)
 unfolding leaf_answer turn_of
 from_refused t names s h n seen e q = go (branch t n) refl
   where
-    go : (c : Bool) → branch t n ≡ c → Reads t names s h n seen (Header.Refused e)
+    go : (c : Bool) → branch t n ≡ c → Reads t names s h n seen (Err e)
     go true m = headers.refused m (ap (at_branch s seen.state) q)
     go false m =
         let there : Reads t names s h n seen (leaf_answer s (get_or t n 0) h seen) = leaf m in
@@ -114,9 +116,9 @@ data Begun (s : List ℕ) (b at : ℕ) : ℕ → ℕ → Bool → Type 0 where
   colon : goes_on s at ≡ true → Begun s b at 0 (at + 1) false
   star : stands_at 42 s at ≡ true → Begun s b at 0 at true
 
-abbrev Fits : List ℕ → ℕ → ℕ → Front → Type 0
-Fits s b at (Front.From n p c) = Begun s b at n p c
-Fits s b at Front.Other = bare s at ≡ true
+abbrev Fits : List ℕ → ℕ → ℕ → Option Front → Type 0
+Fits s b at (Some h) = Begun s b at h.node h.place h.star
+Fits s b at None = bare s at ≡ true
 
 fits : (s : List ℕ) (b at : ℕ) → Fits s b at (front_of s b at)
 unfolding front_of bare
@@ -125,18 +127,18 @@ fits s b at =
     (λ e. by_test (Fits s b at) (goes_on s at) colon
     (λ f. by_test (Fits s b at) (stands_at 42 s at) star (λ g. rw (e, f, g))))
 
-module _ (s : List ℕ) (b at : ℕ) (f : Front) (ef : f ≡ front_of s b at) where
-  fit : (x : Front) → f ≡ x → Fits s b at x
+module _ (s : List ℕ) (b at : ℕ) (f : Option Front) (ef : f ≡ front_of s b at) where
+  fit : (x : Option Front) → f ≡ x → Fits s b at x
   fit x q = subst (Fits s b at) (sym ef ∙ q) (fits s b at)
 
-  pub is_bare' : f ≡ Front.Other → bare s at ≡ true
-  is_bare' q = fit Front.Other q
+  pub is_bare' : f ≡ None → bare s at ≡ true
+  is_bare' q = fit None q
 
-  is_begun : (n p : ℕ) (c : Bool) → f ≡ Front.From n p c → Begun s b at n p c
-  is_begun n p c q = fit (Front.From n p c) q
+  is_begun : (x : Front) → f ≡ Some x → Begun s b at x.node x.place x.star
+  is_begun x q = fit (Some x) q
 
-  pub begins' : (n p : ℕ) (c : Bool) → f ≡ Front.From n p c → begins c s p ≡ true
-  begins' n p c q = go (is_begun n p c q)
+  pub begins' : (x : Front) → f ≡ Some x → begins x.star s x.place ≡ true
+  begins' x q = go (is_begun x q)
     where
       go : {n p : ℕ} {c : Bool} → Begun s b at n p c → begins c s p ≡ true
       go (letter w) = w
@@ -144,41 +146,41 @@ module _ (s : List ℕ) (b at : ℕ) (f : Front) (ef : f ≡ front_of s b at) wh
       go (star w) = w
 
 -- the same answer; of a common command, with the branch b kept
-abbrev keeping_if : Bool → ℕ → Header → Header
+abbrev keeping_if : Bool → ℕ → Result Header ErrorCode → Result Header ErrorCode
 keeping_if true b r = keeping b r
 keeping_if false b r = r
 
 module _ (t names s : List ℕ) (b at : ℕ) (held : branch t b ≡ true) where
-  along : {x y : Seen} {r : Header} → x ≡ y → Begins t names s b x r → Begins t names s b y r
+  along : {x y : Seen} {r : Result Header ErrorCode} → x ≡ y → Begins t names s b x r → Begins t names s b y r
   along e o = rw e at o
 
-  begun_letter : {r : Header} → is_letter_at s at ≡ true → ((h : ℕ) → Reads t names s h b (ahead_at s at false) r) → Begins t names s b (ahead_at s at false) r
+  begun_letter : {r : Result Header ErrorCode} → is_letter_at s at ≡ true → ((h : ℕ) → Reads t names s h b (ahead_at s at false) r) → Begins t names s b (ahead_at s at false) r
   begun_letter {r} w o = go (mnemonic s at) refl
     where
-      go : (x : Read) → mnemonic s at ≡ x → Begins t names s b (ahead_at s at false) r
-      go (Read.Token k next) q =
+      go : (x : Result (Token × ℕ) ErrorCode) → mnemonic s at ≡ x → Begins t names s b (ahead_at s at false) r
+      go (Ok (k, next)) q =
           from_branch held (sym (ap (λ (y : Seen). y.ahead) (word_ahead s at false (met s at false w) k next q))) (no_star s at (letter_there s at w).1 next) (o b)
-      go (Read.Refused e) q =
+      go (Err e) q =
           let a : (ahead_at s at false).ahead ≡ Ahead.Refused e = sym (ap (λ (y : Seen). y.ahead) (refused_ahead s at false (met s at false w) e q)) in
           rw (one_reading (o b) (from_refused t names s b b (ahead_at s at false) e a)) (first_refused held a)
 
-  begun_colon : {r : Header} → goes_on s at ≡ true → ((h : ℕ) → Reads t names s h 0 (ahead_at s (at + 1) false) r) → Begins t names s b (ahead_at s at false) r
+  begun_colon : {r : Result Header ErrorCode} → goes_on s at ≡ true → ((h : ℕ) → Reads t names s h 0 (ahead_at s (at + 1) false) r) → Begins t names s b (ahead_at s at false) r
   begun_colon g o = along (colon_ahead s at g) (from_root held refl (o 0))
 
-  begun_star : {r : Header} → stands_at 42 s at ≡ true → ((h : ℕ) → Reads t names s h 0 (ahead_at s at true) r) → Begins t names s b (ahead_at s at false) (keeping b r)
+  begun_star : {r : Result Header ErrorCode} → stands_at 42 s at ≡ true → ((h : ℕ) → Reads t names s h 0 (ahead_at s at true) r) → Begins t names s b (ahead_at s at false) (keeping b r)
   begun_star {r} w o = go (mnemonic s at) refl
     where
-      go : (x : Read) → mnemonic s at ≡ x → Begins t names s b (ahead_at s at false) (keeping b r)
-      go (Read.Token k next) q =
+      go : (x : Result (Token × ℕ) ErrorCode) → mnemonic s at ≡ x → Begins t names s b (ahead_at s at false) (keeping b r)
+      go (Ok (k, next)) q =
           let same : ahead_at s at true ≡ ahead_at s at false = sym (star_word s at true w k next q) ∙ star_word s at false w k next q in
           common held (sym (ap (λ (y : Seen). y.ahead) (star_word s at false w k next q))) (star_part s at w next (some_byte s at true w k next q) (star_inside s at w k next q))
           (rw same at (o 0))
-      go (Read.Refused e) q =
+      go (Err e) q =
           let a : (ahead_at s at true).ahead ≡ Ahead.Refused e = sym (ap (λ (y : Seen). y.ahead) (star_refused s at true w e q)) in
           rw (one_reading (o 0) (from_refused t names s 0 0 (ahead_at s at true) e a))
           (first_refused held (sym (ap (λ (y : Seen). y.ahead) (star_refused s at false w e q))))
 
-  begun : {n p : ℕ} {c : Bool} {r : Header} → Begun s b at n p c → ((h : ℕ) → Reads t names s h n (ahead_at s p c) r) → Begins t names s b (ahead_at s at false) (keeping_if c b r)
+  begun : {n p : ℕ} {c : Bool} {r : Result Header ErrorCode} → Begun s b at n p c → ((h : ℕ) → Reads t names s h n (ahead_at s p c) r) → Begins t names s b (ahead_at s at false) (keeping_if c b r)
   begun (letter w) o = begun_letter w o
   begun (colon g) o = begun_colon g o
   begun (star w) o = begun_star w o
@@ -195,39 +197,39 @@ keep_refusal b a true = kept_refusal b a
 keep_refusal b a false = refl
 
 module _ (t names s : List ℕ) (b at : ℕ) (c : Bool) (ec : c ≡ is_branch (get_or t b 0)) where
-  pub no_start' : not c ≡ true → Begins t names s b (ahead_at s at false) (Header.Refused ErrorCode.StartIsNoBranch)
+  pub no_start' : not c ≡ true → Begins t names s b (ahead_at s at false) (Err ErrorCode.StartIsNoBranch)
   no_start' q = no_branch (sym ec ∙ not-true c q)
 
-  module _ (q : not c ≡ false) (f : Front) (ef : f ≡ front_of s b at) where
-    pub other' : (r : Header) → Otherwise t s at r → Begins t names s b (ahead_at s at false) r
+  module _ (q : not c ≡ false) (f : Option Front) (ef : f ≡ front_of s b at) where
+    pub other' : (r : Result Header ErrorCode) → Otherwise t s at r → Begins t names s b (ahead_at s at false) r
     unfolding Otherwise
     other' r o = o names b (sym ec ∙ not-false c q)
 
-    module _ (n p : ℕ) (star : Bool) (e : f ≡ Front.From n p star) (k kept place : ℕ) (d : Bool) (z : Arrives t names s n p star k kept place d) where
-      answered : {r : Header} → ((h : ℕ) → Reads t names s h n (ahead_at s p star) r) → Begins t names s b (ahead_at s at false) (keeping_if star b r)
-      answered o = begun t names s b at (sym ec ∙ not-false c q) (is_begun s b at f ef n p star e) o
+    module _ (x : Front) (e : f ≡ Some x) (k kept place : ℕ) (d : Bool) (z : Arrives t names s x.node x.place x.star k kept place d) where
+      answered : {r : Result Header ErrorCode} → ((h : ℕ) → Reads t names s h x.node (ahead_at s x.place x.star) r) → Begins t names s b (ahead_at s at false) (keeping_if x.star b r)
+      answered o = begun t names s b at (sym ec ∙ not-false c q) (is_begun s b at f ef x e) o
 
-      pub refused' : k ≡ length t → (r : Header) → r ≡ refused_by (ahead_at s place d).ahead → Begins t names s b (ahead_at s at false) r
+      pub refused' : k ≡ length t → (r : Result Header ErrorCode) → r ≡ refused_by (ahead_at s place d).ahead → Begins t names s b (ahead_at s at false) r
       refused' l r er = rw er (go z l)
         where
-          go : {k kept place : ℕ} {d : Bool} → Arrives t names s n p star k kept place d → k ≡ length t → Begins t names s b (ahead_at s at false) (refused_by (ahead_at s place d).ahead)
+          go : {k kept place : ℕ} {d : Bool} → Arrives t names s x.node x.place x.star k kept place d → k ≡ length t → Begins t names s b (ahead_at s at false) (refused_by (ahead_at s place d).ahead)
           go (arrives i o) l = absurd (omega arith)
-          go {place = place} {d} (strays o) l = rw (keep_refusal b (ahead_at s place d).ahead star) at (answered o)
+          go {place = place} {d} (strays o) l = rw (keep_refusal b (ahead_at s place d).ahead x.star) at (answered o)
 
       module _ (l : k ≡ length t → ⊥) where
         pub leaf_in' : k < length t
         leaf_in' = go z l
           where
-            go : {k kept place : ℕ} {d : Bool} → Arrives t names s n p star k kept place d → (k ≡ length t → ⊥) → k < length t
+            go : {k kept place : ℕ} {d : Bool} → Arrives t names s x.node x.place x.star k kept place d → (k ≡ length t → ⊥) → k < length t
             go (arrives i o) l = i
             go (strays o) l = absurd (l refl)
 
-        pub found' : (g : ℕ) → g ≡ kept_by star b kept → (r : Header) → r ≡ leaf_answer s (get_or t k 0) g (ahead_at s place d) → Begins t names s b (ahead_at s at false) r
+        pub found' : (g : ℕ) → g ≡ kept_by x.star b kept → (r : Result Header ErrorCode) → r ≡ leaf_answer s (get_or t k 0) g (ahead_at s place d) → Begins t names s b (ahead_at s at false) r
         found' g eg r er = rw (er, eg) (go z l)
           where
-            go : {k kept place : ℕ} {d : Bool} → Arrives t names s n p star k kept place d → (k ≡ length t → ⊥)
-                → Begins t names s b (ahead_at s at false) (leaf_answer s (get_or t k 0) (kept_by star b kept) (ahead_at s place d))
-            go {k} {kept} {place} {d} (arrives i o) l = rw (keep_leaf s (get_or t k 0) kept b (ahead_at s place d) star) at (answered o)
+            go : {k kept place : ℕ} {d : Bool} → Arrives t names s x.node x.place x.star k kept place d → (k ≡ length t → ⊥)
+                → Begins t names s b (ahead_at s at false) (leaf_answer s (get_or t k 0) (kept_by x.star b kept) (ahead_at s place d))
+            go {k} {kept} {place} {d} (arrives i o) l = rw (keep_leaf s (get_or t k 0) kept b (ahead_at s place d) x.star) at (answered o)
             go (strays o) l = absurd (l refl)
 
 pub ruleset read_laws = (rules, is_bare', begins', no_start', other', refused', leaf_in', found')
@@ -247,9 +249,9 @@ no_branch' t names s n at c w b e q kept = strays go
         along : {y : Seen} → y ≡ ahead_at s at c → leaf_answer s (get_or t n 0) h y ≡ refused_by y.ahead → Reads t names s h n (ahead_at s at c) (refused_by (ahead_at s at c).ahead)
         along i j = rw (sym (ap (leaf_answer s (get_or t n 0) h) i) ∙ j ∙ ap (λ (y : Seen). refused_by y.ahead) i) at there
 
-        by : (x : Read) → mnemonic s at ≡ x → Reads t names s h n (ahead_at s at c) (refused_by (ahead_at s at c).ahead)
-        by (Read.Token k next) f = along (word_ahead s at c (met s at c w) k next f) refl
-        by (Read.Refused o) f = along (refused_ahead s at c (met s at c w) o f) refl
+        by : (x : Result (Token × ℕ) ErrorCode) → mnemonic s at ≡ x → Reads t names s h n (ahead_at s at c) (refused_by (ahead_at s at c).ahead)
+        by (Ok (k, next)) f = along (word_ahead s at c (met s at c w) k next f) refl
+        by (Err o) f = along (refused_ahead s at c (met s at c w) o f) refl
 
 pub is_branch' : (t : List ℕ) (n : ℕ) (b : Bool) → b ≡ is_branch (get_or t n 0) → not b ≡ false → branch t n ≡ true
 is_branch' t n b e q = sym e ∙ not-false b q
@@ -273,19 +275,19 @@ module _ (s : List ℕ) (at : ℕ) (e : bare s at ≡ true) where
     is_ahead : {a : Ahead} → x.ahead ≡ a → (ahead_at s at false).ahead ≡ a
     is_ahead q = ap (λ (y : Seen). y.ahead) (sym ex) ∙ q
 
-    pub none_refused' : (c : ErrorCode) → x.ahead ≡ Ahead.Refused c → Otherwise t s at (Header.Refused c)
+    pub none_refused' : (c : ErrorCode) → x.ahead ≡ Ahead.Refused c → Otherwise t s at (Err c)
     unfolding Otherwise
     none_refused' c q names b m = first_refused m (is_ahead q)
 
-    pub none_stop' : (y : Stop) → x.ahead ≡ Ahead.Stop y → Otherwise t s at (Header.Refused ErrorCode.SyntaxError)
+    pub none_stop' : (y : Stop) → x.ahead ≡ Ahead.Stop y → Otherwise t s at (Err ErrorCode.SyntaxError)
     unfolding Otherwise
     none_stop' y q names b m = no_header m (is_ahead q)
 
-    pub none_query' : x.ahead ≡ Ahead.Query → Otherwise t s at (Header.Refused ErrorCode.SyntaxError)
+    pub none_query' : x.ahead ≡ Ahead.Query → Otherwise t s at (Err ErrorCode.SyntaxError)
     unfolding Otherwise
     none_query' q names b m = no_question m (is_ahead q)
 
-    pub none_word' : (v : View) → x.ahead ≡ Ahead.Word v → Otherwise t s at (Header.Refused ErrorCode.SyntaxError)
+    pub none_word' : (v : View) → x.ahead ≡ Ahead.Word v → Otherwise t s at (Err ErrorCode.SyntaxError)
     none_word' v q = no_mnemonic s at false bare_parts.0 bare_parts.2 (is_ahead q)
 
     module _ (q : x.ahead ≡ Ahead.Colon) where
@@ -298,7 +300,7 @@ module _ (s : List ℕ) (at : ℕ) (e : bare s at ≡ true) where
           let z : p ≡ at + 1 = ep ∙ ap (λ (y : Seen). y.state.place) ex ∙ colon_place s at false (is_ahead q) in
           rw z last.1
 
-      pub none_colon' : (p : ℕ) → p ≡ x.state.place → (r : Header) → Empty t p r → Otherwise t s at r
+      pub none_colon' : (p : ℕ) → p ≡ x.state.place → (r : Result Header ErrorCode) → Empty t p r → Otherwise t s at r
       unfolding Otherwise turn_of leaf_answer
       none_colon' p ep r o names b m = from_root m (is_ahead q) (rw (ends p ep) at (go o))
         where
@@ -316,7 +318,7 @@ module _ (s : List ℕ) (at : ℕ) (e : bare s at ≡ true) where
           at_leaf l (root_leaf i) = leaf i
           at_leaf l (root_branch i z) = settles refl i l z
 
-          go : {r : Header} → Empty t p r → Reads t names s 0 0 seen r
+          go : {r : Result Header ErrorCode} → Empty t p r → Reads t names s 0 0 seen r
           go (found z l) = at_leaf l z
           go (not_found z) = nowhere refl z
 

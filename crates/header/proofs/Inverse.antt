@@ -1,4 +1,5 @@
 -- What a token of a header tells of the bytes at its place.
+use Rattle.std.specs.Prelude.{Result}
 use Prim.Native.Nat.{ℕ, ◌+◌, ◌-◌, ◌≤◌, ◌<◌}
 use mathlib.Core.Path.{◌≡◌, refl, sym, ap, subst, ◌∙◌}
 use mathlib.Core.Logic.{◌⊎◌, inl, inr, ⊎_elim}
@@ -8,14 +9,15 @@ use lib.Dec.{eqb, leb, ltb}
 use lib.ListN.{length, get_or}
 use borrow.Author.Tests.{eqb-true, le-leb, lt-leb, not-true}
 use Rattle.kind.specs.Class.{is_white_space, is_letter, in_mnemonic}
-use Rattle.kind.specs.Kind.{kind_of, newline, blank, star, colon, question, semicolon, comma, hash, quote, parenthesis, other, beyond, underscore, small, capital}
+use Rattle.kind.specs.Kind.{kind_of}
+use Rattle.kind.specs.declared.Kind.{Kind}
+use Rattle.kind.specs.declared.Kind.TheVariants as kind
 use Rattle.kind.proofs.Tests.{by_test, clash, either, or_left, or_right, and_left, and_right, less_or_not}
 use Rattle.forms.proofs.OfKind.{star_is, colon_is, small_letter, capital_letter}
 use Rattle.util.specs.Run.{run_end, stands_at}
-use Rattle.item.specs.{Follow.ends_data, Follow.followed, Word.star_end, Word.mnemonic, declared.Read.Read}
+use Rattle.item.specs.{Follow.ends_data, Follow.followed, Word.star_end, Word.mnemonic}
 use Rattle.enclosed.specs.Expression.{in_expression, bracketed, expression_data}
 use Rattle.separator.specs.Separator.{newline_to, follows_colon, colon_to, follows_query, question_to, comma_to}
-use Rattle.separator.specs.declared.Pass.{Pass}
 use Rattle.token.specs.declared.Token.TheVariants.{HeaderMnemonicSeparator, HeaderQuerySuffix}
 use Rattle.tokenizer.specs.Step.{state_of, taken, refusal, ended, read_as, passed, ended_by, newline_before, colon_before, question_before, comma_before, word_at, outside, by_kind, step}
 use Rattle.tokenizer.specs.{declared.State.State, declared.Step.Step}
@@ -25,6 +27,8 @@ use Rattle.ahead.specs.declared.Ahead.{Ahead}
 use Rattle.spoken.specs.Spoken.{is_letter_at}
 use Rattle.header.specs.Internal.{ahead_at, goes_on}
 use Rattle.header.proofs.{Looks.end_seen', Places.stands}
+use Rattle.error.specs.declared.ErrorCode.{ErrorCode}
+use Rattle.token.specs.declared.Token.{Token}
 
 module _ (s : List ℕ) (p : ℕ) (c : Bool) where
   -- a mnemonic begins with a letter or a star; after a colon there is a letter, or nothing, and the header is no common command's
@@ -45,7 +49,7 @@ module _ (s : List ℕ) (p : ℕ) (c : Bool) where
     abbrev b : ℕ
     b = get_or s p 0
 
-    abbrev k : ℕ
+    abbrev k : Kind
     k = kind_of b
 
     letter_here : is_letter b ≡ true → is_letter_at s p ≡ true
@@ -54,54 +58,55 @@ module _ (s : List ℕ) (p : ℕ) (c : Bool) where
 
     reads : (common : Bool) → (is_letter_at s p || stands_at 42 s p) ≡ true → P (read_as s st common (mnemonic s p))
     unfolding mnemonic read_as taken refusal
-    reads common e = by_test (λ (r : Read). P (read_as s st common r)) (leb (run_end in_mnemonic s (star_end s p) - p) 12) (λ _. e) (λ _. tt)
+    reads common e = by_test (λ (r : Result (Token × ℕ) ErrorCode). P (read_as s st common r)) (leb (run_end in_mnemonic s (star_end s p) - p) 12) (λ _. e) (λ _. tt)
 
     expression : P (read_as s st c (expression_data s (p + 1)))
     unfolding expression_data bracketed followed read_as taken refusal
     expression =
-        by_test (λ (r : Read). P (read_as s st c r)) (stands_at 41 s (run_end in_expression s (p + 1)))
-        (λ _. by_test (λ (r : Read). P (read_as s st c r)) (ends_data s (run_end is_white_space s (run_end in_expression s (p + 1) + 1))) (λ _. tt) (λ _. tt))
+        by_test (λ (r : Result (Token × ℕ) ErrorCode). P (read_as s st c r)) (stands_at 41 s (run_end in_expression s (p + 1)))
+        (λ _. by_test (λ (r : Result (Token × ℕ) ErrorCode). P (read_as s st c r)) (ends_data s (run_end is_white_space s (run_end in_expression s (p + 1) + 1))) (λ _. tt) (λ _. tt))
         (λ _. tt)
 
     newline_told : P (newline_before s st (p + 1))
     unfolding newline_before newline_to ended_by ended refusal
-    newline_told = by_test (λ (x : Pass). P (ended_by s st x)) (ltb (p + 1) (length s)) (λ _. tt) (λ _. tt)
+    newline_told = by_test (λ (x : Result ℕ ErrorCode). P (ended_by s st x)) (ltb (p + 1) (length s)) (λ _. tt) (λ _. tt)
 
-    colon_told : eqb k colon ≡ true → P (colon_before s st (p + 1))
+    colon_told : k ≡ kind.Colon → P (colon_before s st (p + 1))
     unfolding colon_before colon_to passed taken refusal
     colon_told e =
-        by_test (λ (x : Pass). P (passed s st HeaderMnemonicSeparator true x)) (follows_colon s (p + 1) && not c)
+        by_test (λ (x : Result ℕ ErrorCode). P (passed s st HeaderMnemonicSeparator true x)) (follows_colon s (p + 1) && not c)
         (λ f.
-        (refl, not-true c (and_right (follows_colon s (p + 1)) (not c) f), stands s p 58 h (eqb-true b 58 (colon_is b (eqb-true k colon e))), and_left (follows_colon s (p + 1)) (not c) f))
+        (refl, not-true c (and_right (follows_colon s (p + 1)) (not c) f), stands s p 58 h (eqb-true b 58 (colon_is b e)), and_left (follows_colon s (p + 1)) (not c) f))
         (λ _. tt)
 
     question_told : P (question_before s st (p + 1))
     unfolding question_before question_to passed taken refusal
-    question_told = by_test (λ (x : Pass). P (passed s st HeaderQuerySuffix false x)) (follows_query s (p + 1) && true) (λ _. tt) (λ _. tt)
+    question_told = by_test (λ (x : Result ℕ ErrorCode). P (passed s st HeaderQuerySuffix false x)) (follows_query s (p + 1) && true) (λ _. tt) (λ _. tt)
 
-    by_kind_lem : P (by_kind s st p b k)
+    by_kind_lem : (x : Kind) → k ≡ x → P (by_kind s st p b x)
     unfolding by_kind comma_before comma_to passed word_at outside refusal taken
-    by_kind_lem =
-        by_test P (eqb k newline) (λ _. newline_told)
-        (λ _. by_test P (eqb k star) (λ e. reads true (or_right (is_letter_at s p) (stands s p 42 h (eqb-true b 42 (star_is b (eqb-true k star e))))))
-        (λ _. by_test P (eqb k colon) (λ e. colon_told e)
-        (λ _. by_test P (eqb k question) (λ _. question_told)
-        (λ _. by_test P (eqb k semicolon) (λ _. tt)
-        (λ _. by_test P (eqb k comma) (λ _. tt)
-        (λ _. by_test P (eqb k blank) (λ _. tt)
-        (λ _. by_test P (eqb k small || eqb k capital) (λ e. reads c (or_left (stands_at 42 s p) (letter_here (letter e))))
-        (λ _. by_test P (eqb k parenthesis) (λ _. expression)
-        (λ _. by_test P (eqb k other || eqb k underscore) (λ _. tt)
-        (λ _. by_test P (eqb k beyond) (λ _. tt)
-        (λ _. by_test P (eqb k hash) (λ _. tt)
-        (λ _. by_test P (eqb k quote) (λ _. tt) (λ _. tt)))))))))))))
-      where
-        letter : (eqb k small || eqb k capital) ≡ true → is_letter b ≡ true
-        letter e = ⊎_elim (λ f. small_letter b (eqb-true k small f)) (λ f. capital_letter b (eqb-true k capital f)) (either (eqb k small) (eqb k capital) e)
+    by_kind_lem kind.Newline e = newline_told
+    by_kind_lem kind.Star e = reads true (or_right (is_letter_at s p) (stands s p 42 h (eqb-true b 42 (star_is b e))))
+    by_kind_lem kind.Colon e = colon_told e
+    by_kind_lem kind.Question e = question_told
+    by_kind_lem kind.Semicolon e = tt
+    by_kind_lem kind.Comma e = tt
+    by_kind_lem kind.Blank e = tt
+    by_kind_lem kind.Small e = reads c (or_left (stands_at 42 s p) (letter_here (small_letter b e)))
+    by_kind_lem kind.Capital e = reads c (or_left (stands_at 42 s p) (letter_here (capital_letter b e)))
+    by_kind_lem kind.Parenthesis e = expression
+    by_kind_lem kind.Other e = tt
+    by_kind_lem kind.Underscore e = tt
+    by_kind_lem kind.Beyond e = tt
+    by_kind_lem kind.Hash e = tt
+    by_kind_lem kind.Quote e = tt
+    by_kind_lem kind.Digit e = tt
+    by_kind_lem kind.Sign e = tt
+    by_kind_lem kind.Point e = tt
 
   told : P (step s st)
   unfolding step ended
-  told = ⊎_elim (λ h. rw (lt-leb (length s) p h) (by_kind_lem h)) (λ h. rw (le-leb (length s) p h) tt) (less_or_not p (length s))
+  told = ⊎_elim (λ h. rw (lt-leb (length s) p h) (by_kind_lem h (kind_of (get_or s p 0)) refl)) (λ h. rw (le-leb (length s) p h) tt) (less_or_not p (length s))
 
   tells : Tells (ahead_at s p c).ahead (ahead_at s p c).state
   unfolding seen_at

@@ -1,4 +1,5 @@
 -- Laws of looking ahead, as the code meets them.
+use Rattle.std.specs.Prelude.{Result, Ok, Err}
 use Prim.Native.Nat.{ℕ, ◌+◌, ◌≤◌, ◌<◌}
 use mathlib.Core.Path.{◌≡◌, refl, ap, ◌∙◌}
 use mathlib.Core.List.{List}
@@ -10,8 +11,8 @@ use Rattle.kind.specs.{Class.is_white_space, Class.is_letter, Kind.kind_of}
 use Rattle.util.specs.Run.{run_end}
 use Rattle.token.specs.declared.Token.{Token}
 use Rattle.token.specs.declared.Token.TheVariants.{HeaderMnemonicSeparator, HeaderQuerySuffix, ProgramMessageUnitSeparator, ProgramHeaderSeparator}
-use Rattle.item.specs.{Word.mnemonic, declared.Read.Read}
-use Rattle.separator.specs.{Separator.colon_to, Separator.question_to, declared.Pass.Pass}
+use Rattle.item.specs.{Word.mnemonic}
+use Rattle.separator.specs.{Separator.colon_to, Separator.question_to}
 use Rattle.tokenizer.specs.Step.{state_of, is_in_header, is_in_common, taken, refusal, read_as, passed, step}
 use Rattle.tokenizer.specs.{declared.State.State, declared.Step.Step}
 use Rattle.tokenizer.specs.declared.Answer.TheVariants as answer
@@ -30,17 +31,17 @@ module _ (s : List ℕ) (st : State) where
   refusal_is' e = refl
 
   module _ (x : Seen) where
-    pub read_token' : (r : Read) (t : Token) (next : ℕ) → r ≡ Read.Token t next → (common : Bool) → x ≡ seen_of (taken t next (is_in_header st) common) → x ≡ seen_of (read_as s st common r)
+    pub read_token' : (r : Result (Token × ℕ) ErrorCode) (t : Token) (next : ℕ) → r ≡ Ok (t, next) → (common : Bool) → x ≡ seen_of (taken t next (is_in_header st) common) → x ≡ seen_of (read_as s st common r)
     read_token' r t next e common ex = ex ∙ ap seen_of (form_token' s st r t next e (is_in_header st) common refl (taken t next (is_in_header st) common) refl)
 
-    pub read_refused' : (r : Read) (common : Bool) (e : ErrorCode) → r ≡ Read.Refused e → x ≡ seen_of (refusal s st e) → x ≡ seen_of (read_as s st common r)
+    pub read_refused' : (r : Result (Token × ℕ) ErrorCode) (common : Bool) (e : ErrorCode) → r ≡ Err e → x ≡ seen_of (refusal s st e) → x ≡ seen_of (read_as s st common r)
     read_refused' r common e q ex = ex ∙ ap seen_of (form_refused' s st r common e q (refusal s st e) refl)
 
-    module _ (p : Pass) (t : Token) (header : Bool) where
-      pub passed_to' : (next : ℕ) → p ≡ Pass.To next → x ≡ seen_of (taken t next header (is_in_common st)) → x ≡ seen_of (passed s st t header p)
+    module _ (p : Result ℕ ErrorCode) (t : Token) (header : Bool) where
+      pub passed_to' : (next : ℕ) → p ≡ Ok next → x ≡ seen_of (taken t next header (is_in_common st)) → x ≡ seen_of (passed s st t header p)
       passed_to' next e ex = ex ∙ ap seen_of (pass_to' s st p t header (taken t next header (is_in_common st)) next e refl)
 
-      pub passed_refused' : (e : ErrorCode) → p ≡ Pass.Refused e → x ≡ seen_of (refusal s st e) → x ≡ seen_of (passed s st t header p)
+      pub passed_refused' : (e : ErrorCode) → p ≡ Err e → x ≡ seen_of (refusal s st e) → x ≡ seen_of (passed s st t header p)
       passed_refused' e q ex = ex ∙ ap seen_of (pass_refused' s st p t header (refusal s st e) e q refl)
 
 pub ruleset parts = (rules, taken_is', refusal_is', read_token', read_refused', passed_to', passed_refused')
@@ -55,14 +56,14 @@ module _ (s : List ℕ) (st : State) (x : Seen) where
   end_seen' h ex = seen_step (record { answer = answer.End; state = st }) (end' s st h) ex
 
   module _ (h : st.place < length s) where
-    pub letter_seen' : (b : Bool) → b ≡ is_letter (get_or s st.place 0) → b ≡ true → is_in_header st ≡ true → (r : Read) → r ≡ mnemonic s st.place → x ≡ seen_of (read_as s st (is_in_common st) r) → x ≡ seen_at s st
+    pub letter_seen' : (b : Bool) → b ≡ is_letter (get_or s st.place 0) → b ≡ true → is_in_header st ≡ true → (r : Result (Token × ℕ) ErrorCode) → r ≡ mnemonic s st.place → x ≡ seen_of (read_as s st (is_in_common st) r) → x ≡ seen_at s st
     letter_seen' b e q k r er ex = seen_step (read_as s st (is_in_common st) r) (letter' s st h b (read_as s st (is_in_common st) r) e q (word_header' s st st.place (read_as s st (is_in_common st) r) k r er refl)) ex
 
-    pub star_seen' : get_or s st.place 0 ≡ 42 → (r : Read) → r ≡ mnemonic s st.place → x ≡ seen_of (read_as s st true r) → x ≡ seen_at s st
+    pub star_seen' : get_or s st.place 0 ≡ 42 → (r : Result (Token × ℕ) ErrorCode) → r ≡ mnemonic s st.place → x ≡ seen_of (read_as s st true r) → x ≡ seen_at s st
     unfolding kind_of is_white_space
     star_seen' e r er ex = seen_step (read_as s st true r) (star' s st h (kind_of (get_or s st.place 0)) refl (read_as s st true r) (rw e) (rw er)) ex
 
-    module _ (p : Pass) where
+    module _ (p : Result ℕ ErrorCode) where
       pub colon_seen' : get_or s st.place 0 ≡ 58 → p ≡ colon_to s (st.place + 1) (is_in_header st) (is_in_common st) → x ≡ seen_of (passed s st HeaderMnemonicSeparator (is_in_header st) p) → x ≡ seen_at s st
       unfolding kind_of is_white_space
       colon_seen' e ep ex =

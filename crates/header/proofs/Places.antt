@@ -1,4 +1,5 @@
 -- Laws of the places of a header, as the code meets them.
+use Rattle.std.specs.Prelude.{Some, None}
 use Prim.Native.Nat.{ℕ, ◌+◌, ◌≤◌, ◌<◌}
 use mathlib.Core.Path.{◌≡◌, refl, sym, ap, ◌∙◌}
 use mathlib.Core.List.{List}
@@ -12,7 +13,6 @@ use Rattle.kind.proofs.Tests.{by_test, clash, and_left, and_right}
 use Rattle.util.specs.Run.{stands_at}
 use Rattle.spoken.specs.Spoken.{is_letter_at}
 use Rattle.header.specs.Internal.{after_byte, goes_on, halts, ends_at, front_of, kept_by}
-use Rattle.header.specs.declared.Front.TheVariants as front
 
 module _ (s : List ℕ) (at : ℕ) (b : ℕ) where
   pub inside : stands_at b s at ≡ true → at < length s
@@ -97,21 +97,21 @@ after_colon s at g = rw (and_left (stands_at 58 s at) (is_letter_at s (at + 1)) 
 -- where a header begins
 
 module _ (s : List ℕ) (b at : ℕ) (c : Bool) (e : c ≡ is_letter_at s at) where
-  pub at_letter' : c ≡ true → front.From b at false ≡ front_of s b at
+  pub at_letter' : c ≡ true → Some (record { node = b; place = at; star = false }) ≡ front_of s b at
   unfolding front_of
   at_letter' q = rw (← e, q)
 
   module _ (q : c ≡ false) (d : Bool) (f : d ≡ goes_on s at) where
-    pub at_colon' : d ≡ true → (next : ℕ) → next ≡ after_byte 58 s at → front.From 0 next false ≡ front_of s b at
+    pub at_colon' : d ≡ true → (next : ℕ) → next ≡ after_byte 58 s at → Some (record { node = 0; place = next; star = false }) ≡ front_of s b at
     unfolding front_of
-    at_colon' k next n = rw (← e, q, ← f, k) (ap (λ (x : ℕ). front.From 0 x false) (n ∙ after_colon s at (sym f ∙ k)))
+    at_colon' k next n = rw (← e, q, ← f, k) (ap (λ (x : ℕ). Some (record { node = 0; place = x; star = false })) (n ∙ after_colon s at (sym f ∙ k)))
 
     module _ (k : d ≡ false) (g : Bool) (eg : g ≡ stands_at 42 s at) where
-      pub at_star' : g ≡ true → front.From 0 at true ≡ front_of s b at
+      pub at_star' : g ≡ true → Some (record { node = 0; place = at; star = true }) ≡ front_of s b at
       unfolding front_of
       at_star' z = rw (← e, q, ← f, k, ← eg, z)
 
-      pub at_other' : g ≡ false → front.Other ≡ front_of s b at
+      pub at_other' : g ≡ false → None ≡ front_of s b at
       unfolding front_of
       at_other' z = rw (← e, q, ← f, k, ← eg, z)
 

@@ -1,4 +1,5 @@
 -- Laws of the leaf that is reached unsaid, as the code meets them; and what it is to a header.
+use Rattle.std.specs.Prelude.{Ok, Option, Some, None}
 use Prim.Native.Nat.{ℕ, ◌-◌, ◌<◌}
 use mathlib.Core.Path.{◌≡◌, refl, sym, subst, ◌∙◌}
 use mathlib.Core.Logic.{◌⊎◌, inl, inr, ⊎_elim}
@@ -10,26 +11,25 @@ use borrow.Author.Rules.{rules}
 use borrow.Author.Tests.{not-true, not-false}
 use Rattle.node.specs.{Word.is_branch, Word.command_number, Tree.branch}
 use Rattle.branch.specs.Children.{unsaid_in, Picks, PicksIn}
-use Rattle.branch.specs.{Block.children_of, declared.Block.Block, declared.Pick.Pick}
+use Rattle.branch.specs.{Block.children_of, declared.Block.Block}
 use Rattle.branch.proofs.Picks.{picks_children, deeper}
 use Rattle.ahead.specs.declared.Stop.TheVariants as stop
 use Rattle.ahead.specs.declared.Seen.{Seen}
 use Rattle.header.specs.Turn as turn
 use Rattle.header.specs.Header.{undefined, leaf_answer, turn_of, Reads, leaf, ended, nowhere}
 use Rattle.header.specs.Internal.{Settles, at_leaf, onward, unsettled, RootLeaf, root_leaf, root_branch, Empty, found, not_found}
-use Rattle.header.specs.declared.Header.TheVariants as header
 
 -- a pick among the children of a branch
-pub picked : (t : List ℕ) (b : ℕ) (x : Block) → x ≡ children_of t b → (p : ℕ → Bool) (y z : Pick) → PicksIn p x.from x.to y → y ≡ z → Picks t b p z
+pub picked : (t : List ℕ) (b : ℕ) (x : Block) → x ≡ children_of t b → (p : ℕ → Bool) (y z : Option ℕ) → PicksIn p x.from x.to y → y ≡ z → Picks t b p z
 picked t b x e p y z h q = picks_children t b p z (rw (e, q) at h)
 
-module _ (t : List ℕ) (b : ℕ) (x : Block) (e : x ≡ children_of t b) (y : Pick) (h : PicksIn (unsaid_in t) x.from x.to y) where
-  pub no_default' : y ≡ Pick.None → Settles t b (length t)
-  no_default' q = unsettled (picked t b x e (unsaid_in t) y Pick.None h q)
+module _ (t : List ℕ) (b : ℕ) (x : Block) (e : x ≡ children_of t b) (y : Option ℕ) (h : PicksIn (unsaid_in t) x.from x.to y) where
+  pub no_default' : y ≡ None → Settles t b (length t)
+  no_default' q = unsettled (picked t b x e (unsaid_in t) y None h q)
 
-  module _ (d : ℕ) (q : y ≡ Pick.Child d) where
-    default_picked : Picks t b (unsaid_in t) (Pick.Child d)
-    default_picked = picked t b x e (unsaid_in t) y (Pick.Child d) h q
+  module _ (d : ℕ) (q : y ≡ Some d) where
+    default_picked : Picks t b (unsaid_in t) (Some d)
+    default_picked = picked t b x e (unsaid_in t) y (Some d) h q
 
     pub default_in' : d < length t
     default_in' = (deeper default_picked).0
@@ -87,7 +87,7 @@ module _ (t : List ℕ) (p k : ℕ) (z : RootLeaf t k) where
         go (root_leaf m) n = omega (arith, n)
         go (root_branch m z) n = ⊎_elim (λ l. l) (λ q. absurd (n q)) (settled_in z)
 
-    pub found' : (c : ℕ) → c ≡ command_number (get_or t k 0) → Empty t p (header.Found c false 0 stop.Text p)
+    pub found' : (c : ℕ) → c ≡ command_number (get_or t k 0) → Empty t p (Ok (record { command = c; query = false; branch = 0; stop = stop.Text; place = p }))
     found' c ec = rw ec (found z root_in')
 
 pub ruleset empty_laws = (rules, not_found', root_in', found')

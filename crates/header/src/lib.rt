@@ -10,94 +10,92 @@ ghost use Rattle.header.specs.Header.{query_answer, leaf_answer, Begins};
 ghost use Rattle.header.specs.Internal.{ahead_at, begins, goes_on, after_byte, ends_at, front_of, kept_by, is_ending, refused_by, bare, Settles, Arrives, RootLeaf, Empty, Otherwise};
 
 use ahead::{Ahead, Seen, Stop};
-use branch::Pick;
 use error::ErrorCode;
-use spoken::Spoken;
 use tokenizer::State;
 
 // The command of a header, its form, the branch that the next header starts from, what ended the header, and the place after that.
 #[derive(Clone, Copy)]
-pub enum Header {
-    Found {
-        command: u16,
-        query: bool,
-        branch: usize,
-        stop: Stop,
-        place: usize,
-    },
-    Refused(ErrorCode),
+pub struct Header {
+    pub command: u16,
+    pub query: bool,
+    pub branch: usize,
+    pub stop: Stop,
+    pub place: usize,
 }
 
 // Where a header begins: the node, the place of its first mnemonic, and whether that has a star.
 #[derive(Clone, Copy)]
-enum Front {
-    From {
-        node: usize,
-        place: usize,
-        star: bool,
-    },
-    // no mnemonic begins there
-    Other,
+struct Front {
+    node: usize,
+    place: usize,
+    star: bool,
 }
 
 // Resolves the header that begins at a place, from a branch.
-pub fn read(nodes: &[u64], names: &[u8], s: &[u8], start: usize, at: usize) -> Header
+pub fn read(
+    nodes: &[u64],
+    names: &[u8],
+    s: &[u8],
+    start: usize,
+    at: usize,
+) -> Result<Header, ErrorCode>
     ensures { Begins nodes.now names.now s.now start (seen_at s.now (state_of at true false)) result }
 {
     if !branch::is_branch(nodes, start) {
-        return Header::Refused(ErrorCode::StartIsNoBranch);
+        return Err(ErrorCode::StartIsNoBranch);
     }
-    match front_at(s, start, at) {
-        Front::Other => other(nodes, s, at),
-        Front::From { node, place, star } => {
-            let mut kept = node;
-            let mut last = place;
-            let mut common = star;
-            let leaf = lead(
-                nodes,
-                names,
-                s,
-                node,
-                place,
-                &mut kept,
-                &mut last,
-                &mut common,
-            );
-            if leaf == nodes.len() {
-                return refusal(s, last, common);
-            }
-            let branch = keep(star, start, kept);
-            ending(s, nodes[leaf], branch, last, common)
-        }
+    let Some(front) = front_at(s, start, at) else {
+        return other(nodes, s, at);
+    };
+    let node = front.node;
+    let place = front.place;
+    let star = front.star;
+    let mut kept = node;
+    let mut last = place;
+    let mut common = star;
+    let leaf = lead(
+        nodes,
+        names,
+        s,
+        node,
+        place,
+        &mut kept,
+        &mut last,
+        &mut common,
+    );
+    if leaf == nodes.len() {
+        return refusal(s, last, common);
     }
+    let branch = keep(star, start, kept);
+    ending(s, nodes[leaf], branch, last, common)
 }
 
-// A leading colon starts at the root, and so does a common command.
-fn front_at(s: &[u8], start: usize, at: usize) -> Front
+// A leading colon starts at the root, and so does a common command. None: no mnemonic begins there.
+fn front_at(s: &[u8], start: usize, at: usize) -> Option<Front>
     ensures { result ≡ front_of s.now start at }
 {
     if spoken::has_letter(s, at) {
-        return Front::From {
+        return Some(Front {
             node: start,
             place: at,
             star: false,
-        };
+        });
     }
     if goes_on(s, at) {
-        return Front::From {
+        return Some(Front {
             node: 0, // the root
             place: after(s, at, b':'),
             star: false,
-        };
+        });
     }
     if util::stands(s, at, b'*') {
-        return Front::From {
+        return Some(Front {
             node: 0,
             place: at,
             star: true,
-        };
+        });
     }
-    Front::Other
+    None
 }
 
 // A common command leaves the branch as it was.
@@ -111,7 +109,7 @@ fn keep(star: bool, start: usize, kept: usize) -> usize
 }
 
 // Without a mnemonic: a lone colon is an empty header at the root, and all else is refused, by one token step.
-fn other(nodes: &[u64], s: &[u8], at: usize) -> Header
+fn other(nodes: &[u64], s: &[u8], at: usize) -> Result<Header, ErrorCode>
     requires { bare s.now at ≡ true }
     ensures { Otherwise nodes.now s.now at result }
 {
@@ -119,29 +117,29 @@ fn other(nodes: &[u64], s: &[u8], at: usize) -> Header
     let ahead = seen.ahead;
     let state = seen.state;
     match ahead {
-        Ahead::Refused(e) => Header::Refused(e),
-        Ahead::Stop(_) => Header::Refused(ErrorCode::SyntaxError),
-        Ahead::Query => Header::Refused(ErrorCode::SyntaxError),
-        Ahead::Word(_) => Header::Refused(ErrorCode::SyntaxError),
+        Ahead::Refused(e) => Err(e),
+        Ahead::Stop(_) => Err(ErrorCode::SyntaxError),
+        Ahead::Query => Err(ErrorCode::SyntaxError),
+        Ahead::Word(_) => Err(ErrorCode::SyntaxError),
         Ahead::Colon => empty(nodes, state.place),
     }
 }
 
 // An empty header at the root.
-fn empty(nodes: &[u64], place: usize) -> Header
+fn empty(nodes: &[u64], place: usize) -> Result<Header, ErrorCode>
     ensures { Empty nodes.now place result }
 {
     let leaf = root_leaf(nodes);
     if leaf == nodes.len() {
-        return Header::Refused(ErrorCode::UndefinedHeader);
+        return Err(ErrorCode::UndefinedHeader);
     }
-    Header::Found {
+    Ok(Header {
         command: node::command_number(nodes[leaf]),
         query: false,
         branch: 0,
         stop: Stop::Text,
         place,
-    }
+    })
 }
 
 fn root_leaf(nodes: &[u64]) -> usize
@@ -153,7 +151,8 @@ fn root_leaf(nodes: &[u64]) -> usize
     0
 }
 
-// The leaf that a header leads to from a node, or the number of nodes.
+// The leaf that a header leads to from a node, or the number of nodes, here and in the three functions like it: with an Option for the answer the
+// compiler makes no loops of the calls, and a chain of 4,000 default branches takes a megabyte of stack.
 fn lead(
     nodes: &[u64],
     names: &[u8],
@@ -195,7 +194,7 @@ fn down(
     let from = block.from;
     let to = block.to;
     match spoken::spelled_in(table, *names, *s, from, to, at) {
-        Spoken::Node { node: child, next } => {
+        Some((child, next)) => {
             *kept = b;
             *place = next;
             if !branch::is_branch(table, child) {
@@ -220,12 +219,12 @@ fn down(
             }
             table.len()
         }
-        Spoken::None => match branch::default_in(table, from, to) {
-            Pick::None => {
+        None => match branch::default_in(table, from, to) {
+            None => {
                 *place = at;
                 return table.len();
             }
-            Pick::Child(d) => {
+            Some(d) => {
                 if !branch::is_branch(table, d) {
                     *place = at;
                     return table.len();
@@ -243,8 +242,8 @@ fn default_leaf(nodes: &&[u64], b: usize) -> usize
     let table: &[u64] = *nodes;
     let block = branch::children(table, b);
     match branch::default_in(table, block.from, block.to) {
-        Pick::None => table.len(),
-        Pick::Child(d) => {
+        None => table.len(),
+        Some(d) => {
             if !branch::is_branch(table, d) {
                 return d;
             }
@@ -266,17 +265,17 @@ fn look_at(s: &[u8], place: usize, common: bool) -> Seen
 }
 
 // Why a header leads to no leaf, by the token at the place where its mnemonics end.
-fn refusal(s: &[u8], place: usize, common: bool) -> Header
+fn refusal(s: &[u8], place: usize, common: bool) -> Result<Header, ErrorCode>
     ensures { result ≡ refused_by (ahead_at s.now place common).ahead }
 {
     let seen = look_at(s, place, common);
     let ahead = seen.ahead;
     match ahead {
-        Ahead::Refused(error) => Header::Refused(error),
-        Ahead::Stop(_) => Header::Refused(ErrorCode::UndefinedHeader),
-        Ahead::Query => Header::Refused(ErrorCode::UndefinedHeader),
-        Ahead::Word(_) => Header::Refused(ErrorCode::UndefinedHeader),
-        Ahead::Colon => Header::Refused(ErrorCode::CommandHeaderError),
+        Ahead::Refused(e) => Err(e),
+        Ahead::Stop(_) => Err(ErrorCode::UndefinedHeader),
+        Ahead::Query => Err(ErrorCode::UndefinedHeader),
+        Ahead::Word(_) => Err(ErrorCode::UndefinedHeader),
+        Ahead::Colon => Err(ErrorCode::CommandHeaderError),
     }
 }
 
@@ -336,78 +335,78 @@ fn stops(s: &[u8], place: usize, common: bool) -> bool
 }
 
 // The end of a header at a leaf, by one or two bytes, or by the token there.
-fn ending(s: &[u8], leaf: u64, kept: usize, place: usize, common: bool) -> Header
+fn ending(s: &[u8], leaf: u64, kept: usize, place: usize, common: bool) -> Result<Header, ErrorCode>
     ensures { result ≡ leaf_answer s.now leaf kept (ahead_at s.now place common) }
 {
     let command = node::command_number(leaf);
     let query = util::stands(s, place, b'?');
     let at = after(s, place, b'?');
     if s.len() <= at {
-        return Header::Found {
+        return Ok(Header {
             command,
             query,
             branch: kept,
             stop: Stop::Text,
             place: at,
-        };
+        });
     }
     match s[at] {
-        b' ' => Header::Found {
+        b' ' => Ok(Header {
             command,
             query,
             branch: kept,
             stop: Stop::Separator,
             place: util::skip_ws(s, at + 1),
-        },
-        b';' => Header::Found {
+        }),
+        b';' => Ok(Header {
             command,
             query,
             branch: kept,
             stop: Stop::Unit,
             place: util::skip_ws(s, at + 1),
-        },
+        }),
         _ => at_leaf(s, leaf, kept, look_at(s, place, common)),
     }
 }
 
 // At a leaf the header ends, or it has no command.
-fn at_leaf(s: &[u8], leaf: u64, kept: usize, seen: Seen) -> Header
+fn at_leaf(s: &[u8], leaf: u64, kept: usize, seen: Seen) -> Result<Header, ErrorCode>
     ensures { result ≡ leaf_answer s.now leaf kept seen }
 {
     let ahead = seen.ahead;
     let state = seen.state;
     match ahead {
-        Ahead::Stop(stop) => Header::Found {
+        Ahead::Stop(stop) => Ok(Header {
             command: node::command_number(leaf),
             query: false,
             branch: kept,
             stop,
             place: state.place,
-        },
+        }),
         Ahead::Query => query(leaf, kept, ahead::look(s, state)),
-        Ahead::Refused(e) => Header::Refused(e),
-        Ahead::Word(_) => Header::Refused(ErrorCode::UndefinedHeader),
-        Ahead::Colon => Header::Refused(ErrorCode::UndefinedHeader),
+        Ahead::Refused(e) => Err(e),
+        Ahead::Word(_) => Err(ErrorCode::UndefinedHeader),
+        Ahead::Colon => Err(ErrorCode::UndefinedHeader),
     }
 }
 
 // After a `?` the header ends.
-fn query(leaf: u64, kept: usize, seen: Seen) -> Header
+fn query(leaf: u64, kept: usize, seen: Seen) -> Result<Header, ErrorCode>
     ensures { result ≡ query_answer leaf kept seen }
 {
     let ahead = seen.ahead;
     let state = seen.state;
     match ahead {
-        Ahead::Stop(stop) => Header::Found {
+        Ahead::Stop(stop) => Ok(Header {
             command: node::command_number(leaf),
             query: true,
             branch: kept,
             stop,
             place: state.place,
-        },
-        Ahead::Refused(e) => Header::Refused(e),
-        Ahead::Query => Header::Refused(ErrorCode::SyntaxError),
-        Ahead::Word(_) => Header::Refused(ErrorCode::SyntaxError),
-        Ahead::Colon => Header::Refused(ErrorCode::SyntaxError),
+        }),
+        Ahead::Refused(e) => Err(e),
+        Ahead::Query => Err(ErrorCode::SyntaxError),
+        Ahead::Word(_) => Err(ErrorCode::SyntaxError),
+        Ahead::Colon => Err(ErrorCode::SyntaxError),
     }
 }

@@ -1,5 +1,6 @@
 -- Laws of the number that begins at a place, as the loop over its digits meets them.
-use Prim.Native.Nat.{ℕ, ◌+◌, ◌-◌, ◌*◌, ◌/◌, ◌^◌, ◌≤◌, ◌<◌}
+use Rattle.std.specs.Prelude.{Result, Ok, Err, Option, Some, None}
+use Prim.Native.Nat.{ℕ, ◌+◌, ◌-◌, ◌*◌, ◌/◌, ◌^◌, ◌≤◌, ◌<◌, max}
 use mathlib.Core.Path.{◌≡◌, sym, ap, ◌∙◌}
 use mathlib.Core.Logic.{⊎_elim}
 use mathlib.Core.List.{List}
@@ -14,12 +15,12 @@ use mir.Syntax.{w64}
 use mir.Val.{Fits}
 use Rattle.kind.proofs.Tests.{less_or_not}
 use Rattle.util.specs.Run.{run, run_end}
-use Rattle.util.proofs.Runs.{run_past, run_stop, run_more}
-use Rattle.integer.specs.{Digit.digit_of, Digit.is_digit_of, declared.Radix.Radix, declared.Unsigned.Unsigned, declared.Longer.Longer}
+use Rattle.util.proofs.Runs.{ends_at, run_past, run_stop, run_more}
+use Rattle.integer.specs.{Digit.digit_of, Digit.is_digit_of, declared.Radix.Radix}
 use Rattle.integer.specs.Number.{base_of, digits, found_at, longer, unsigned_of, unsigned_at}
 use Rattle.integer.specs.declared.Radix.TheVariants.{Binary, Octal, Decimal, Hexadecimal}
-use Rattle.integer.specs.declared.Unsigned.TheVariants.{Value, NoDigit, TooLarge}
 use Rattle.integer.proofs.Values.{onward, taken, from_zero, no_less, last, past, more}
+use Rattle.integer.specs.declared.NumberError.{NumberError}
 
 -- each base is one of four
 some_base : (radix : Radix) → 0 < base_of radix
@@ -38,35 +39,35 @@ pub base_some' : (radix : Radix) (base : ℕ) → base ≡ base_of radix → 0 <
 base_some' radix base e = rw e (some_base radix)
 
 -- what became of a value with one more digit
-abbrev worth : Longer → ℕ
-worth (Longer.Value v) = v
-worth Longer.TooLarge = 0
+abbrev worth : Option ℕ → ℕ
+worth (Some v) = v
+worth None = 0
 
-abbrev is_large : Longer → Bool
-is_large (Longer.Value v) = false
-is_large Longer.TooLarge = true
+abbrev is_large : Option ℕ → Bool
+is_large (Some v) = false
+is_large None = true
 
 module _ (n : ℕ) where
-  small : n < 2 ^ 64 → longer n ≡ Longer.Value n
+  small : n < 2 ^ 64 → longer n ≡ Some n
   unfolding longer
   small h = rw (lt-ltb n (2 ^ 64) h)
 
-  large : 2 ^ 64 ≤ n → longer n ≡ Longer.TooLarge
+  large : 2 ^ 64 ≤ n → longer n ≡ None
   unfolding longer
   large h = rw (le-ltb n (2 ^ 64) h)
 
-  module _ (l : Longer) (e : l ≡ longer n) where
-    fits_value : (w : ℕ) → l ≡ Longer.Value w → n ≡ w
+  module _ (l : Option ℕ) (e : l ≡ longer n) where
+    fits_value : (w : ℕ) → l ≡ Some w → n ≡ w
     fits_value w f =
         ⊎_elim (λ k. ap worth (sym (small k) ∙ sym e ∙ f)) (λ k. absurd (true≢false (ap is_large (sym (large k) ∙ sym e ∙ f))))
         (less_or_not n (2 ^ 64))
 
-    value_small : (w : ℕ) → l ≡ Longer.Value w → w < 2 ^ 64
+    value_small : (w : ℕ) → l ≡ Some w → w < 2 ^ 64
     value_small w f =
         ⊎_elim (λ k. rw (← fits_value w f) k) (λ k. absurd (true≢false (ap is_large (sym (large k) ∙ sym e ∙ f))))
         (less_or_not n (2 ^ 64))
 
-    over_value : l ≡ Longer.TooLarge → 2 ^ 64 ≤ n
+    over_value : l ≡ None → 2 ^ 64 ≤ n
     over_value f = ⊎_elim (λ k. absurd (false≢true (ap is_large (sym (small k) ∙ sym e ∙ f)))) (λ k. k) (less_or_not n (2 ^ 64))
 
 -- the digits at the front of a text are as many as the run has
@@ -75,7 +76,7 @@ unfolding digits
 all base t = taken (is_digit_of base) t
 
 module _ (radix : Radix) (base : ℕ) (eb : base ≡ base_of radix) (s : List ℕ) (at : ℕ) where
-  by_value : unsigned_at radix s at ≡ cond (ltb (onward base 0 (drop at s)) (2 ^ 64)) (found_at (onward base 0 (drop at s)) at (run_end (is_digit_of base) s at)) TooLarge
+  by_value : unsigned_at radix s at ≡ cond (ltb (onward base 0 (drop at s)) (2 ^ 64)) (found_at (onward base 0 (drop at s)) at (run_end (is_digit_of base) s at)) (Err NumberError.TooLarge)
   unfolding unsigned_at unsigned_of run_end
   by_value = rw (← eb, all base (drop at s), ← from_zero base (drop at s))
 
@@ -83,11 +84,12 @@ module _ (radix : Radix) (base : ℕ) (eb : base ≡ base_of radix) (s : List �
   module _ (value end : ℕ)
       (runs : run_end (is_digit_of base) s at ≡ run_end (is_digit_of base) s end)
       (values : onward base 0 (drop at s) ≡ onward base value (drop end s)) where
-    at_last : (r : Unsigned) → value < 2 ^ 64 → r ≡ found_at value at end → run_end (is_digit_of base) s at ≡ end → onward base 0 (drop at s) ≡ value → r ≡ unsigned_at radix s at
+    at_last : (r : Result (ℕ × ℕ) NumberError) → value < 2 ^ 64 → r ≡ found_at value at end → run_end (is_digit_of base) s at ≡ end → onward base 0 (drop at s) ≡ value → r ≡ unsigned_at radix s at
     at_last r k er e f = er ∙ sym (by_value ∙ rw (e, f, lt-ltb value (2 ^ 64) k))
 
-    pub past' : (r : Unsigned) → value < 2 ^ 64 → r ≡ found_at value at end → length s ≤ end → r ≡ unsigned_at radix s at
-    past' r k er h = at_last r k er (runs ∙ run_past (is_digit_of base) s end h) (values ∙ past base value s end h)
+    pub past' : (r : Result (ℕ × ℕ) NumberError) (m : ℕ) → value < 2 ^ 64 → r ≡ found_at value at m → m ≡ max at (length s)
+        → (at ≤ length s → end ≤ length s) → length s ≤ end → r ≡ unsigned_at radix s at
+    past' r m k er em f h = at_last r k (er ∙ rw (ends_at (is_digit_of base) s end at m em f h runs)) (runs ∙ run_past (is_digit_of base) s end h) (values ∙ past base value s end h)
 
     module _ (h : end < length s) (digit : ℕ) (ed : digit ≡ digit_of (get_or s end 0)) where
       is_digit : digit < base → is_digit_of base (get_or s end 0) ≡ true
@@ -98,7 +100,7 @@ module _ (radix : Radix) (base : ℕ) (eb : base ≡ base_of radix) (s : List �
       unfolding is_digit_of
       no_digit k = rw (← ed, le-ltb digit base k)
 
-      pub stop' : (r : Unsigned) → value < 2 ^ 64 → base ≤ digit → r ≡ found_at value at end → r ≡ unsigned_at radix s at
+      pub stop' : (r : Result (ℕ × ℕ) NumberError) → value < 2 ^ 64 → base ≤ digit → r ≡ found_at value at end → r ≡ unsigned_at radix s at
       stop' r k q er = at_last r k er (runs ∙ run_stop (is_digit_of base) s end h (no_digit q)) (values ∙ last base value s end h (no_digit q))
 
       module _ (k : digit < base) where
@@ -108,31 +110,31 @@ module _ (radix : Radix) (base : ℕ) (eb : base ≡ base_of radix) (s : List �
         next : onward base 0 (drop at s) ≡ onward base (value * base + digit) (drop (end + 1) s)
         next = values ∙ more base value s end h (is_digit k) ∙ rw ed
 
-        pub value_on' : (w j : ℕ) → j ≡ end + 1 → (l : Longer) → l ≡ longer (value * base + digit) → l ≡ Longer.Value w
+        pub value_on' : (w j : ℕ) → j ≡ end + 1 → (l : Option ℕ) → l ≡ longer (value * base + digit) → l ≡ Some w
             → onward base 0 (drop at s) ≡ onward base w (drop j s)
         value_on' w j f l el ew = next ∙ rw (f, fits_value (value * base + digit) l el w ew)
 
-        pub value_fits' : (w : ℕ) (l : Longer) → l ≡ longer (value * base + digit) → l ≡ Longer.Value w → w < 2 ^ 64
+        pub value_fits' : (w : ℕ) (l : Option ℕ) → l ≡ longer (value * base + digit) → l ≡ Some w → w < 2 ^ 64
         value_fits' w l el ew = value_small (value * base + digit) l el w ew
 
-        pub too_large' : (l : Longer) → l ≡ longer (value * base + digit) → l ≡ Longer.TooLarge → TooLarge ≡ unsigned_at radix s at
+        pub too_large' : (l : Option ℕ) → l ≡ longer (value * base + digit) → l ≡ None → Err NumberError.TooLarge ≡ unsigned_at radix s at
         too_large' l el ew =
             let m : 2 ^ 64 ≤ onward base 0 (drop at s) =
             omega (arith, next, over_value (value * base + digit) l el ew, no_less base (value * base + digit) (drop (end + 1) s) (rw eb (some_base radix))) in
             sym (by_value ∙ rw (le-ltb (onward base 0 (drop at s)) (2 ^ 64) m))
 
 module _ (value at end : ℕ) where
-  pub found_none' : end ≡ at → NoDigit ≡ found_at value at end
+  pub found_none' : end ≡ at → Err NumberError.NoDigit ≡ found_at value at end
   unfolding found_at
   found_none' e = rw (eq-eqb end at e)
 
-  pub found_some' : (end ≡ at → ⊥) → Value value end ≡ found_at value at end
+  pub found_some' : (end ≡ at → ⊥) → Ok (value, end) ≡ found_at value at end
   unfolding found_at
   found_some' n = rw (ne_eqb end at n)
 
 -- a value with one more digit, against the largest that has room for one
 module _ (value digit base limit : ℕ) (e : limit ≡ (2 ^ 64 - 1) / base) where
-  pub no_room' : 0 < base → limit < value → Longer.TooLarge ≡ longer (value * base + digit)
+  pub no_room' : 0 < base → limit < value → None ≡ longer (value * base + digit)
   no_room' p k =
       let d : (2 ^ 64 - 1) / base < value = rw (← e) k in
       let m : 2 ^ 64 - 1 < value * base = (div-lt_iff_lt-mul p).0 d in
@@ -148,14 +150,14 @@ module _ (value digit base limit : ℕ) (e : limit ≡ (2 ^ 64 - 1) / base) wher
     pub product_most' : value * base ≤ 2 ^ 64 - 1
     product_most' = scaled
 
-    pub no_room_last' : 2 ^ 64 - 1 - value * base < digit → Longer.TooLarge ≡ longer (value * base + digit)
+    pub no_room_last' : 2 ^ 64 - 1 - value * base < digit → None ≡ longer (value * base + digit)
     no_room_last' h = sym (large (value * base + digit) (omega (arith, scaled)))
 
     module _ (h : digit ≤ 2 ^ 64 - 1 - value * base) where
       pub sum_fits' : Fits w64 (value * base + digit)
       sum_fits' = record { fits = omega (arith, scaled) }
 
-      pub room' : Longer.Value (value * base + digit) ≡ longer (value * base + digit)
+      pub room' : Some (value * base + digit) ≡ longer (value * base + digit)
       room' = sym (small (value * base + digit) (omega (arith, scaled)))
 
 pub ruleset step = (rules, found_none', found_some', no_room', product_fits', product_most', no_room_last', sum_fits', room')

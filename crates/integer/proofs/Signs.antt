@@ -1,4 +1,5 @@
 -- Laws of the sign of a number, as the code meets them.
+use Rattle.std.specs.Prelude.{Result, Ok, Err}
 use Prim.Native.Nat.{ℕ, zero, suc, ◌^◌, ◌≤◌, ◌<◌}
 use mathlib.Core.Path.{◌≡◌, refl, ap, ◌∙◌}
 use mathlib.Core.List.{List}
@@ -14,7 +15,8 @@ use mir.Val.{Fits, SFits, to_z, of_z}
 use mir.ValLaws.{to_z_pos, to_z-of_z}
 use Rattle.util.specs.Run.{sign_end, stands_at}
 use Rattle.integer.specs.Number.{unsigned_at, signed_of, signed_at}
-use Rattle.integer.specs.{declared.Radix.TheVariants.Decimal, declared.Unsigned.Unsigned, declared.Signed.Signed}
+use Rattle.integer.specs.{declared.Radix.TheVariants.Decimal}
+use Rattle.integer.specs.declared.NumberError.{NumberError}
 
 fits_negative : (n : ℕ) → n < 2 ^ 63 → SFits w64 (neg_ℤ (pos n))
 fits_negative zero h = record { sfits = h }
@@ -28,44 +30,44 @@ module _ (v end : ℕ) where
     pub minus_fits' : SFits w64 (pos 0 -ℤ to_z w64 v)
     minus_fits' = rw minus (fits_negative v h)
 
-    pub plus_is' : Signed.Value (to_z w64 v) end ≡ signed_of false (Unsigned.Value v end)
+    pub plus_is' : Ok (to_z w64 v, end) ≡ signed_of false (Ok (v, end))
     unfolding signed_of
     plus_is' = rw (lt-ltb v (2 ^ 63) h)
 
-    pub minus_is' : Signed.Value (to_z w64 (of_z w64 (pos 0 -ℤ to_z w64 v))) end ≡ signed_of true (Unsigned.Value v end)
+    pub minus_is' : Ok (to_z w64 (of_z w64 (pos 0 -ℤ to_z w64 v)), end) ≡ signed_of true (Ok (v, end))
     unfolding signed_of
     minus_is' =
         let k : v ≤ 2 ^ 63 = omega arith in
         rw (le-leb v (2 ^ 63) k, minus, to_z-of_z w64 (neg_ℤ (pos v)) (fits_negative v h))
 
-  pub plus_over' : 2 ^ 63 ≤ v → Signed.TooLarge ≡ signed_of false (Unsigned.Value v end)
+  pub plus_over' : 2 ^ 63 ≤ v → Err NumberError.TooLarge ≡ signed_of false (Ok (v, end))
   unfolding signed_of
   plus_over' h = rw (le-ltb v (2 ^ 63) h)
 
-  pub minus_least' : v ≡ 2 ^ 63 → Signed.Value (neg_ℤ (pos (2 ^ 63))) end ≡ signed_of true (Unsigned.Value v end)
+  pub minus_least' : v ≡ 2 ^ 63 → Ok (neg_ℤ (pos (2 ^ 63)), end) ≡ signed_of true (Ok (v, end))
   unfolding signed_of
   minus_least' e = rw e
 
-  pub minus_over' : 2 ^ 63 ≤ v → (v ≡ 2 ^ 63 → ⊥) → Signed.TooLarge ≡ signed_of true (Unsigned.Value v end)
+  pub minus_over' : 2 ^ 63 ≤ v → (v ≡ 2 ^ 63 → ⊥) → Err NumberError.TooLarge ≡ signed_of true (Ok (v, end))
   unfolding signed_of
   minus_over' h n =
       let k : 2 ^ 63 < v = omega (arith, n) in
       rw (lt-leb v (2 ^ 63) k)
 
-module _ (s : List ℕ) (at from : ℕ) (e : from ≡ sign_end s at) (u : Unsigned) (eu : u ≡ unsigned_at Decimal s from) where
+module _ (s : List ℕ) (at from : ℕ) (e : from ≡ sign_end s at) (u : Result (ℕ × ℕ) NumberError) (eu : u ≡ unsigned_at Decimal s from) where
   read : u ≡ unsigned_at Decimal s (sign_end s at)
   read = rw (← e) eu
 
-  pub none_read' : u ≡ Unsigned.NoDigit → Signed.NoDigit ≡ signed_at s at
+  pub none_read' : u ≡ Err NumberError.NoDigit → Err NumberError.NoDigit ≡ signed_at s at
   unfolding signed_at signed_of
   none_read' q = rw (← read, q)
 
-  pub over_read' : u ≡ Unsigned.TooLarge → Signed.TooLarge ≡ signed_at s at
+  pub over_read' : u ≡ Err NumberError.TooLarge → Err NumberError.TooLarge ≡ signed_at s at
   unfolding signed_at signed_of
   over_read' q = rw (← read, q)
 
-  pub value_read' : (v end : ℕ) → u ≡ Unsigned.Value v end → (m : Bool) → m ≡ stands_at 45 s at → (b : Bool) → m ≡ b
-      → (r : Signed) → r ≡ signed_of b (Unsigned.Value v end) → r ≡ signed_at s at
+  pub value_read' : (v end : ℕ) → u ≡ Ok (v, end) → (m : Bool) → m ≡ stands_at 45 s at → (b : Bool) → m ≡ b
+      → (r : Result (ℤ × ℕ) NumberError) → r ≡ signed_of b (Ok (v, end)) → r ≡ signed_at s at
   unfolding signed_at
   value_read' v end q m em b eb r er = er ∙ rw (← read, q, ← em, eb)
 

@@ -1,5 +1,5 @@
 // Whole numbers in the four radices of the standard. They are read by value, so that leading zeros never make one too large.
-ghost use Rattle.std.specs.Prelude.{◌≡◌, true, false, ◌+◌, ◌-◌, ◌*◌, ◌/◌, ◌^◌, ◌<◌, nat_abs};
+ghost use Rattle.std.specs.Prelude.{◌≡◌, true, false, Ok, ◌+◌, ◌-◌, ◌*◌, ◌/◌, ◌^◌, ◌<◌, nat_abs};
 ghost use Rattle.integer.specs.Digit.{digit_of};
 ghost use Rattle.integer.specs.Number.{base_of, found_at, longer, unsigned_at, signed_of, signed_at};
 
@@ -12,136 +12,94 @@ pub enum Radix {
     Hexadecimal,
 }
 
-// A number and the place behind its digits; or that there is no digit, or that it does not fit 64 bits.
+// Why no number was read: there is no digit, or it does not fit 64 bits.
 #[derive(Clone, Copy)]
-pub enum Unsigned {
-    Value { value: u64, end: usize },
+pub enum NumberError {
     NoDigit,
     TooLarge,
 }
 
-// The same with a sign.
-#[derive(Clone, Copy)]
-pub enum Signed {
-    Value { value: i64, end: usize },
-    NoDigit,
-    TooLarge,
-}
-
-// The number whose digits begin at a place, as far as they go.
-pub fn read_unsigned(s: &[u8], at: usize, radix: Radix) -> Unsigned
+// The number whose digits begin at a place, as far as they go, and the place behind them.
+pub fn read_unsigned(s: &[u8], at: usize, radix: Radix) -> Result<(u64, usize), NumberError>
     ensures { result ≡ unsigned_at radix s.now at }
 {
     let base = base_of(radix);
     let limit = u64::MAX / base;
     let mut value = 0;
-    let mut end = at;
-    while end < s.len() {
+    for end in at..s.len() {
         let digit = digit_value(s[end]) as u64;
         if base <= digit {
             return found(value, at, end);
         }
-        match with_digit(value, digit, base, limit) {
-            Longer::Value(longer) => value = longer,
-            Longer::TooLarge => return Unsigned::TooLarge,
-        }
-        end += 1;
+        let Some(longer) = with_digit(value, digit, base, limit) else {
+            return Err(NumberError::TooLarge);
+        };
+        value = longer;
     }
-    found(value, at, end)
+    found(value, at, at.max(s.len()))
 }
 
 // A value whose digits stand from a place up to their end.
-fn found(value: u64, at: usize, end: usize) -> Unsigned
+fn found(value: u64, at: usize, end: usize) -> Result<(u64, usize), NumberError>
     ensures { result ≡ found_at value at end }
 {
     if end == at {
-        return Unsigned::NoDigit;
+        return Err(NumberError::NoDigit);
     }
-    Unsigned::Value { value, end }
+    Ok((value, end))
 }
 
-// A value, or that it does not fit 64 bits.
-#[derive(Clone, Copy)]
-enum Longer {
-    Value(u64),
-    TooLarge,
-}
-
-// A value with one more digit behind it; the limit is the largest value that has room for a digit 0.
-fn with_digit(value: u64, digit: u64, base: u64, limit: u64) -> Longer
+// A value with one more digit behind it, where that fits 64 bits; the limit is the largest value that has room for a digit 0.
+fn with_digit(value: u64, digit: u64, base: u64, limit: u64) -> Option<u64>
     requires { (0 < base) × (limit ≡ (2 ^ 64 - 1) / base) }
     ensures { result ≡ longer (value * base + digit) }
 {
     if limit < value {
-        return Longer::TooLarge;
+        return None;
     }
     if u64::MAX - value * base < digit {
-        return Longer::TooLarge;
+        return None;
     }
-    Longer::Value(value * base + digit)
+    Some(value * base + digit)
 }
 
 // The decimal number that begins at a place, with an optional sign before its digits.
-pub fn read_signed(s: &[u8], at: usize) -> Signed
+pub fn read_signed(s: &[u8], at: usize) -> Result<(i64, usize), NumberError>
     ensures { result ≡ signed_at s.now at }
 {
-    let number = read_unsigned(s, util::skip_sign(s, at), Radix::Decimal);
-    match number {
-        Unsigned::NoDigit => Signed::NoDigit,
-        Unsigned::TooLarge => Signed::TooLarge,
-        Unsigned::Value { value, end } => {
-            if util::stands(s, at, b'-') {
-                negative(value, end)
-            } else {
-                positive(value, end)
-            }
-        }
+    let (value, end) = read_unsigned(s, util::skip_sign(s, at), Radix::Decimal)?;
+    if util::stands(s, at, b'-') {
+        negative(value, end)
+    } else {
+        positive(value, end)
     }
 }
 
 // A number that has no minus.
-fn positive(value: u64, end: usize) -> Signed
-    ensures { result ≡ signed_of false (Unsigned.Value value end) }
+fn positive(value: u64, end: usize) -> Result<(i64, usize), NumberError>
+    ensures { result ≡ signed_of false (Ok (value, end)) }
 {
-    if value < 9223372036854775808 {
-        return Signed::Value {
-            value: value as i64,
-            end,
-        };
+    match i64::try_from(value) {
+        Ok(value) => Ok((value, end)),
+        Err(_) => Err(NumberError::TooLarge),
     }
-    Signed::TooLarge
 }
 
 // A number that has a minus.
-fn negative(value: u64, end: usize) -> Signed
-    ensures { result ≡ signed_of true (Unsigned.Value value end) }
+fn negative(value: u64, end: usize) -> Result<(i64, usize), NumberError>
+    ensures { result ≡ signed_of true (Ok (value, end)) }
 {
-    if value < 9223372036854775808 {
-        return Signed::Value {
-            value: 0 - (value as i64),
-            end,
-        };
-    }
-    if value == 9223372036854775808 {
-        return Signed::Value {
-            value: i64::MIN,
-            end,
-        };
-    }
-    Signed::TooLarge
+    let value = 0i64
+        .checked_sub_unsigned(value)
+        .ok_or(NumberError::TooLarge)?;
+    Ok((value, end))
 }
 
-// A number without its sign. The least of all has no opposite among the signed ones.
+// A number without its sign.
 pub fn magnitude(value: i64) -> u64
     ensures { result ≡ nat_abs value }
 {
-    if value == i64::MIN {
-        return 9223372036854775808;
-    }
-    if value < 0 {
-        return (0 - value) as u64;
-    }
-    value as u64
+    value.unsigned_abs()
 }
 
 // How many digits the radix has.

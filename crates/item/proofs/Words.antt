@@ -1,4 +1,5 @@
 -- Laws of words, of a run among the next n characters, and of what follows an item of data, as the code meets them.
+use Rattle.std.specs.Prelude.{Result}
 use Prim.Native.Nat.{ℕ, zero, suc, ◌+◌, ◌-◌, ◌≤◌, ◌<◌}
 use mathlib.Core.Path.{◌≡◌, refl, sym, ap, ◌∙◌}
 use mathlib.Core.List.{List, [], ◌∷◌}
@@ -22,7 +23,6 @@ use Rattle.item.specs.Follow.{token, refused, ends_data, followed}
 use Rattle.error.specs.declared.ErrorCode.TheVariants.{ProgramMnemonicTooLong, InvalidCharacterData, CharacterDataTooLong}
 use Rattle.token.specs.View.{view_of}
 use Rattle.token.specs.declared.Token.TheVariants.{ProgramMnemonic, CharacterProgramData}
-use Rattle.item.specs.{declared.Read.Read}
 use Rattle.item.specs.Word.{star_end, mnemonic, character_data}
 
 module _ (p : ℕ → Bool) where
@@ -183,7 +183,7 @@ module _ (s : List ℕ) (at : ℕ) where
         let k : 12 < run_end in_mnemonic s at - at = omega (arith, h, e, among_under 13 in_mnemonic s at) in
         rw (lt-leb (run_end in_mnemonic s at - at) 12 k)
 
-    pub word_short' : end - at ≤ 12 → (r : Read) → r ≡ followed (CharacterProgramData (view_of at end)) InvalidCharacterData s end → r ≡ character_data s at
+    pub word_short' : end - at ≤ 12 → (r : Result (Token × ℕ) ErrorCode) → r ≡ followed (CharacterProgramData (view_of at end)) InvalidCharacterData s end → r ≡ character_data s at
     unfolding character_data
     word_short' h r er =
         let f : end ≡ run_end in_mnemonic s at = e ∙ among_whole 13 in_mnemonic s at (omega (arith, h, e)) in

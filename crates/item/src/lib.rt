@@ -8,6 +8,7 @@ ghost use Rattle.item.specs.Near.{near_end, run_end_among};
 ghost use Rattle.item.specs.Word.{star_end, mnemonic, character_data};
 
 use error::ErrorCode;
+use kind::Class;
 use token::{Token, View};
 
 // Mnemonics, character data and suffixes have at most so many bytes, a star counted.
@@ -17,33 +18,26 @@ pub const LONGEST_MNEMONIC: usize = 12;
 const NEAR: usize = 13;
 
 // A token and the place behind it, with the white space behind an item of data passed; or a refusal.
-#[derive(Clone, Copy)]
-pub enum Read {
-    Token { token: Token, next: usize },
-    Refused(ErrorCode),
-}
+pub type Read = Result<(Token, usize), ErrorCode>;
 
 // 7.6.1: a mnemonic, a star before it or not.
 pub fn read_mnemonic(s: &[u8], at: usize) -> Read
     ensures { result ≡ mnemonic s.now at }
 {
-    let end = mnemonic_end(s, star_end(s, at));
+    let end = near_run_end::<InMnemonic>(s, star_end(s, at));
     if LONGEST_MNEMONIC < end - at {
-        return Read::Refused(ErrorCode::ProgramMnemonicTooLong);
+        return Err(ErrorCode::ProgramMnemonicTooLong);
     }
-    Read::Token {
-        token: Token::ProgramMnemonic(View { start: at, end }),
-        next: end,
-    }
+    Ok((Token::ProgramMnemonic(View { start: at, end }), end))
 }
 
 // 7.7.1: character data.
 pub fn read_character_data(s: &[u8], at: usize) -> Read
     ensures { result ≡ character_data s.now at }
 {
-    let end = mnemonic_end(s, at);
+    let end = near_run_end::<InMnemonic>(s, at);
     if LONGEST_MNEMONIC < end - at {
-        return Read::Refused(ErrorCode::CharacterDataTooLong);
+        return Err(ErrorCode::CharacterDataTooLong);
     }
     skip_ws_to_separator(
         s,
@@ -59,9 +53,9 @@ pub fn skip_ws_to_separator(s: &[u8], end: usize, token: Token, otherwise: Error
 {
     let next = util::skip_ws(s, end);
     if ends_data(s, next) {
-        return Read::Token { token, next };
+        return Ok((token, next));
     }
-    Read::Refused(otherwise)
+    Err(otherwise)
 }
 
 // Whether an item of data may end before a place.
@@ -90,19 +84,28 @@ fn star_end(s: &[u8], at: usize) -> usize
     at
 }
 
-// The place behind the letters, digits and underscores that begin at a place, of 13 at most.
-fn mnemonic_end(s: &[u8], at: usize) -> usize
-    ensures { result ≡ run_end_among 13 in_mnemonic s.now at }
+// The class of what may stand in a mnemonic behind its first letter.
+struct InMnemonic;
+
+impl Class for InMnemonic {
+    ghost class = { in_mnemonic };
+
+    fn has(b: u8) -> bool {
+        kind::in_mnemonic(b)
+    }
+}
+
+// The place behind the characters of a class that begin at a place, of 13 at most.
+pub fn near_run_end<C: Class>(s: &[u8], at: usize) -> usize
+    ensures { result ≡ run_end_among 13 C.class s.now at }
 {
     let limit = near_end(s, at);
-    let mut end = at;
-    while end < limit {
-        if !kind::in_mnemonic(s[end]) {
+    for end in at..limit {
+        if !C::has(s[end]) {
             return end;
         }
-        end += 1;
     }
-    end
+    at.max(limit)
 }
 
 // The place 13 bytes on, or the end of the text where that comes first.

@@ -1,9 +1,10 @@
 -- Laws of reading one item of data by its form, as the code meets them.
+use Rattle.std.specs.Prelude.{Result, Ok, Err}
 use Prim.Native.Nat.{ℕ, ◌+◌, ◌-◌, ◌≤◌, ◌<◌}
 use mathlib.Core.Path.{◌≡◌, refl, sym, ap, subst, ◌∙◌}
 use mathlib.Core.Logic.{◌⊎◌, inl, inr, ⊎_elim}
 use mathlib.Core.List.{List}
-use mathlib.Core.Bool.{Bool, true, false, not, ◌&&◌, ◌||◌}
+use mathlib.Core.Bool.{Bool, true, false, not, ◌&&◌, ◌||◌, false≢true}
 use native.Mathlib.Omega.{arith}
 use lib.Dec.{eqb, leb, ltb}
 use lib.ListN.{length, get_or, take, drop}
@@ -12,14 +13,16 @@ use borrow.Author.Tests.{eqb-true, leb-true, le-leb, lt-leb, ne_eqb}
 use Rattle.error.specs.{declared.ErrorCode.ErrorCode, declared.ErrorCode.TheVariants.SyntaxError}
 use Rattle.kind.specs.Class.{is, is_white_space, is_capital, is_small, is_digit, is_letter, is_sign, is_quote, is_ascii, in_mnemonic}
 use Rattle.kind.specs.Kind.{kind_of}
+use Rattle.kind.specs.declared.Kind.{Kind}
+use Rattle.kind.specs.declared.Kind.TheVariants as kind
 use Rattle.kind.proofs.Bytes.{agrees}
 use Rattle.kind.proofs.Tests.{by_test, either, or_left, or_right, and_right, clash, less_or_not}
 use Rattle.util.specs.Run.{run_end, stands_at, every}
-use Rattle.integer.specs.{Digit.value_of, Number.unsigned_at, declared.Unsigned.Unsigned}
+use Rattle.integer.specs.{Digit.value_of, Number.unsigned_at}
 use Rattle.integer.specs.declared.Radix.TheVariants.{Binary, Octal, Hexadecimal}
 use Rattle.token.specs.{declared.View.View, declared.Token.Token}
 use Rattle.token.specs.declared.Token.TheVariants.{HeaderMnemonicSeparator, HeaderQuerySuffix, ProgramDataSeparator}
-use Rattle.item.specs.{Follow.ends_data, Follow.followed, Word.star_end, Word.mnemonic, Word.character_data, declared.Read.Read}
+use Rattle.item.specs.{Follow.ends_data, Follow.followed, Word.star_end, Word.mnemonic, Word.character_data}
 use Rattle.decimal.specs.Decimal.{in_suffix, begins_suffix, suffixed, suffix_data, numeric_data}
 use Rattle.forms.proofs.ItemProgress.{by_end}
 use Rattle.enclosed.specs.{String.string_end, String.closed, String.string_data}
@@ -27,22 +30,21 @@ use Rattle.enclosed.specs.Expression.{in_expression, bracketed, expression_data}
 use Rattle.hash.specs.Nondecimal.{nondecimal_of, nondecimal_data}
 use Rattle.hash.specs.Block.{payload, definite, indefinite, arbitrary_data, hash_by, hash_data}
 use Rattle.separator.specs.Separator.{newline_to, colon_to, question_to, comma_to}
-use Rattle.separator.specs.declared.Pass.{Pass}
-use Rattle.tokenizer.specs.Step.{taken, refusal, ended, read_as, passed, ended_by, newline_before, colon_before, question_before, comma_before, by_kind, step}
+use Rattle.tokenizer.specs.Step.{taken, refusal, ended, read_as, passed, ended_by, outside, newline_before, colon_before, question_before, comma_before, by_kind, step}
 use Rattle.tokenizer.specs.{declared.State.State, declared.Answer.Answer, declared.Step.Step}
-use Rattle.tokenizer.proofs.Steps.{word_data', outside_data', letter', parenthesis', hash', quote', number'}
+use Rattle.tokenizer.proofs.Steps.{word_data', outside_data', letter', parenthesis', hash', quote', digit', sign', point'}
 use Rattle.tokens.proofs.StepClaims.{claims}
 use Rattle.items.specs.Entry.{token_entry, met_with, met_of, met_at}
 use Rattle.items.specs.Entry as entry
 use Rattle.items.specs.Internal.{begins_number, begins_data, ends_unit, among, ItemAt, takes, refuses, at_comma, at_end, newline_data}
-use Rattle.items.specs.declared.Data.TheVariants as found
 use Rattle.items.proofs.Meets.{met_step, end_met}
+use Rattle.integer.specs.declared.NumberError.{NumberError}
 
 -- What the readers of the forms read is program data, and is followed as an item is.
 module _ (s : List ℕ) where
-  abbrev DataRead : Read → Type 0
-  DataRead (Read.Token t next) = (token_entry t ≡ entry.Item) × (ends_data s next ≡ true)
-  DataRead (Read.Refused e) = Unit {0}
+  abbrev DataRead : Result (Token × ℕ) ErrorCode → Type 0
+  DataRead (Ok (t, next)) = (token_entry t ≡ entry.Item) × (ends_data s next ≡ true)
+  DataRead (Err e) = Unit {0}
 
   followed_data : (t : Token) (e : ErrorCode) (end : ℕ) → token_entry t ≡ entry.Item → DataRead (followed t e s end)
   unfolding followed
@@ -72,11 +74,11 @@ module _ (s : List ℕ) where
       let end : ℕ = string_end q s at in
       by_test DataRead (leb (length s) end) (λ _. tt) (λ _. by_test DataRead (eqb (get_or s end 0) q) (λ _. followed_data _ _ _ refl) (λ _. tt))
 
-  nondecimal_of_lem : (at : ℕ) (u : Unsigned) → DataRead (nondecimal_of s at u)
+  nondecimal_of_lem : (at : ℕ) (u : Result (ℕ × ℕ) NumberError) → DataRead (nondecimal_of s at u)
   unfolding nondecimal_of
-  nondecimal_of_lem at (Unsigned.Value v end) = followed_data _ _ _ refl
-  nondecimal_of_lem at Unsigned.TooLarge = tt
-  nondecimal_of_lem at Unsigned.NoDigit = by_test DataRead (leb (length s) at) (λ _. tt) (λ _. tt)
+  nondecimal_of_lem at (Ok (v, end)) = followed_data _ _ _ refl
+  nondecimal_of_lem at (Err NumberError.TooLarge) = tt
+  nondecimal_of_lem at (Err NumberError.NoDigit) = by_test DataRead (leb (length s) at) (λ _. tt) (λ _. tt)
 
   block_data : (b at : ℕ) → DataRead (arbitrary_data b s at)
   unfolding arbitrary_data indefinite definite payload ends_data
@@ -116,8 +118,11 @@ module _ (b : ℕ) where
 pub ruleset begins = (rules, digit_begins', sign_begins', point_begins')
 
 -- the kinds of a sign, a point and a digit
-abbrev of_number : ℕ → Bool
-of_number k = eqb k 7 || (eqb k 8 || eqb k 15)
+abbrev of_number : Kind → Bool
+of_number kind.Sign = true
+of_number kind.Point = true
+of_number kind.Digit = true
+of_number k = false
 
 numbers_of : ℕ → Bool
 numbers_of b = not (begins_number b) || of_number (kind_of b)
@@ -139,22 +144,22 @@ unfolding numbers_of
 number_kind b e = rw e at (of_numbers b (number_below b e))
 
 -- The data at a newline.
-module _ (s : List ℕ) (next : ℕ) (p : Pass) (e : p ≡ newline_to s next) where
-  pub newline_over' : (to : ℕ) → p ≡ Pass.To to → found.Items 0 to ≡ newline_data s next
+module _ (s : List ℕ) (next : ℕ) (p : Result ℕ ErrorCode) (e : p ≡ newline_to s next) where
+  pub newline_over' : (to : ℕ) → p ≡ Ok to → Ok (record { count = 0; place = to }) ≡ newline_data s next
   unfolding newline_data
   newline_over' to q = rw (← e, q)
 
-  pub newline_wrong' : (c : ErrorCode) → p ≡ Pass.Refused c → found.Refused c ≡ newline_data s next
+  pub newline_wrong' : (c : ErrorCode) → p ≡ Err c → Err c ≡ newline_data s next
   unfolding newline_data
   newline_wrong' c q = rw (← e, q)
 
 pub ruleset newlines = (rules, newline_over', newline_wrong')
 
 -- What is answered at a byte that begins no data.
-abbrev answered : Answer → Read
-answered (Answer.Token t) = Read.Refused SyntaxError
-answered Answer.End = Read.Refused SyntaxError
-answered (Answer.Refused e) = Read.Refused e
+abbrev answered : Answer → Result (Token × ℕ) ErrorCode
+answered (Answer.Token t) = Err SyntaxError
+answered Answer.End = Err SyntaxError
+answered (Answer.Refused e) = Err e
 
 module _ (s : List ℕ) (at : ℕ) where
   abbrev st : State
@@ -166,15 +171,15 @@ module _ (s : List ℕ) (at : ℕ) where
   abbrev Bare : Step → Type 0
   Bare x = met_at s st ≡ met_of x → ItemAt s at (answered x.answer)
 
-  bare_passed : (t : Token) (p : Pass) → ((next : State) → met_at s st ≡ met_with (token_entry t) next → ItemAt s at (Read.Refused SyntaxError)) → Bare (passed s st t false p)
+  bare_passed : (t : Token) (p : Result ℕ ErrorCode) → ((next : State) → met_at s st ≡ met_with (token_entry t) next → ItemAt s at (Err SyntaxError)) → Bare (passed s st t false p)
   unfolding passed taken refusal
-  bare_passed t (Pass.To next) f m = f _ m
-  bare_passed t (Pass.Refused e) f m = refuses m
+  bare_passed t (Ok next) f m = f _ m
+  bare_passed t (Err e) f m = refuses m
 
-  bare_ended : (p : Pass) → ends_unit s at ≡ true → Bare (ended_by s st p)
+  bare_ended : (p : Result ℕ ErrorCode) → ends_unit s at ≡ true → Bare (ended_by s st p)
   unfolding ended_by ended refusal
-  bare_ended (Pass.To next) z m = at_end z m
-  bare_ended (Pass.Refused e) z m = refuses m
+  bare_ended (Ok next) z m = at_end z m
+  bare_ended (Err e) z m = refuses m
 
   module _ (n : begins_data b ≡ false) where
     bare_kind : Bare (by_kind s st at b (kind_of b))
@@ -182,7 +187,7 @@ module _ (s : List ℕ) (at : ℕ) where
     bare_kind =
         by_test P (is "\n" b) (λ e. bare_ended (newline_to s (at + 1)) (or_right (leb (length s) at) (or_left (is ";" b) e)))
         (λ _. by_test P (is_white_space b) (λ e m. refuses m)
-        (λ _. by_test P (is "*" b) (λ e. by_test (λ (r : Read). Bare (read_as s st true r)) (leb (run_end in_mnemonic s (star_end s at) - at) 12) (λ _ m. refuses m) (λ _ m. refuses m))
+        (λ _. by_test P (is "*" b) (λ e. by_test (λ (r : Result (Token × ℕ) ErrorCode). Bare (read_as s st true r)) (leb (run_end in_mnemonic s (star_end s at) - at) 12) (λ _ m. refuses m) (λ _ m. refuses m))
         (λ _. by_test P (is ":" b) (λ e. bare_passed HeaderMnemonicSeparator (colon_to s (at + 1) false false) (λ _ m. refuses m))
         (λ _. by_test P (is "?" b) (λ e. bare_passed HeaderQuerySuffix (question_to s (at + 1) false) (λ _ m. refuses m))
         (λ _. by_test P (is ";" b) (λ e m. at_end (or_right (leb (length s) at) (or_right (is "\n" b) e)) m)
@@ -198,7 +203,7 @@ module _ (s : List ℕ) (at : ℕ) where
         (λ _. by_test P (is_capital b) (λ e. letter (or_left (is_small b) e))
         (λ _. by_test P (is_ascii b) (λ e m. refuses m) (λ e m. refuses m)))))))))))))))))
       where
-        P : ℕ → Type 0
+        P : Kind → Type 0
         P k = Bare (by_kind s st at b k)
 
         begun : {A : Type 0} → begins_data b ≡ true → A
@@ -220,33 +225,33 @@ module _ (s : List ℕ) (at : ℕ) where
           (λ h. subst (λ (y : Step). ItemAt s at (answered y.answer)) (sym (claims.rests s st h) ∙ sym e) (at_end (or_left (is "\n" b || is ";" b) (le-leb (length s) at h)) (end_met s at h)))
           (less_or_not at (length s)))
 
-      pub bare_end' : x.answer ≡ Answer.End → ItemAt s at (Read.Refused SyntaxError)
+      pub bare_end' : x.answer ≡ Answer.End → ItemAt s at (Err SyntaxError)
       bare_end' q = bare Answer.End q
 
-      pub bare_refused' : (c : ErrorCode) → x.answer ≡ Answer.Refused c → ItemAt s at (Read.Refused c)
+      pub bare_refused' : (c : ErrorCode) → x.answer ≡ Answer.Refused c → ItemAt s at (Err c)
       bare_refused' c q = bare (Answer.Refused c) q
 
-      pub bare_token' : (t : Token) → x.answer ≡ Answer.Token t → ItemAt s at (Read.Refused SyntaxError)
+      pub bare_token' : (t : Token) → x.answer ≡ Answer.Token t → ItemAt s at (Err SyntaxError)
       bare_token' t q = bare (Answer.Token t) q
 
 pub ruleset bares = (rules, bare_end', bare_refused', bare_token')
 
 -- What is read at a place, by the byte there.
 module _ (s : List ℕ) (at : ℕ) where
-  as_item : (r : Read) → DataRead s r → read_as s (among at) false r ≡ step s (among at) → ItemAt s at r
+  as_item : (r : Result (Token × ℕ) ErrorCode) → DataRead s r → read_as s (among at) false r ≡ step s (among at) → ItemAt s at r
   unfolding read_as refusal
-  as_item (Read.Token t next) d f = takes (sym f) d.0 d.1
-  as_item (Read.Refused e) d f = refuses (met_step s (among at) (refusal s (among at) e) f)
+  as_item (Ok (t, next)) d f = takes (sym f) d.0 d.1
+  as_item (Err e) d f = refuses (met_step s (among at) (refusal s (among at) e) f)
 
-  pub none_read' : length s ≤ at → ItemAt s at (Read.Refused SyntaxError)
+  pub none_read' : length s ≤ at → ItemAt s at (Err SyntaxError)
   unfolding ends_unit
   none_read' h = at_end (or_left (is "\n" (get_or s at 0) || is ";" (get_or s at 0)) (le-leb (length s) at h)) (end_met s at h)
 
-  module _ (h : at < length s) (r : Read) where
+  module _ (h : at < length s) (r : Result (Token × ℕ) ErrorCode) where
     abbrev x : Step
     x = read_as s (among at) false r
 
-    abbrev k : ℕ
+    abbrev k : Kind
     k = kind_of (get_or s at 0)
 
     pub word_read' : (q : Bool) → q ≡ is_letter (get_or s at 0) → q ≡ true → r ≡ character_data s at → ItemAt s at r
@@ -255,12 +260,16 @@ module _ (s : List ℕ) (at : ℕ) where
     pub number_read' : (q : Bool) → q ≡ begins_number (get_or s at 0) → q ≡ true → r ≡ numeric_data s at → ItemAt s at r
     number_read' q e p er =
         as_item r (rw er (numeric_data_lem s at))
-        (number' s (among at) h k refl x (no 0 refl) (no 1 refl) (no 2 refl) (no 3 refl) (no 4 refl) (no 5 refl) (no 6 refl) (no 9 refl) (no 10 refl) (no 11 refl)
-        (no 12 refl) (no 13 refl) (no 14 refl) (no 16 refl) (no 17 refl)
-        (outside_data' s (among at) at x (numeric_data s at) refl r er refl))
+        (by k refl (number_kind (get_or s at 0) (sym e ∙ p)))
       where
-        no : (m : ℕ) → of_number m ≡ false → k ≡ m → ⊥
-        no m f g = clash (sym (ap of_number g) ∙ number_kind (get_or s at 0) (sym e ∙ p)) f
+        outer : x ≡ outside s (among at) (numeric_data s at)
+        outer = outside_data' s (among at) at x (numeric_data s at) refl r er refl
+
+        by : (j : Kind) → k ≡ j → of_number j ≡ true → x ≡ step s (among at)
+        by kind.Sign f n = sign' s (among at) h k refl x f outer
+        by kind.Point f n = point' s (among at) h k refl x f outer
+        by kind.Digit f n = digit' s (among at) h k refl x f outer
+        by j f n = absurd (false≢true n)
 
     pub expression_read' : get_or s at 0 ≡ 40 → r ≡ expression_data s (at + 1) → ItemAt s at r
     unfolding kind_of is_white_space is_sign is_quote

@@ -1,4 +1,5 @@
 -- What is met among the data, by the byte at the place.
+use Rattle.std.specs.Prelude.{Result, Ok, Err}
 use Prim.Native.Nat.{ℕ, ◌+◌, ◌≤◌, ◌<◌}
 use mathlib.Core.Path.{◌≡◌, refl, sym, ap, ◌∙◌}
 use mathlib.Core.Logic.{⊎_elim}
@@ -7,10 +8,11 @@ use mathlib.Core.Bool.{Bool, true, false}
 use lib.ListN.{length, get_or}
 use Rattle.error.specs.declared.ErrorCode.{ErrorCode}
 use Rattle.kind.specs.{Class.is_white_space, Kind.kind_of}
+use Rattle.kind.specs.declared.Kind.{Kind}
 use Rattle.kind.proofs.Tests.{clash, less_or_not}
 use Rattle.util.specs.Run.{run_end}
 use Rattle.token.specs.declared.Token.TheVariants.{ProgramMessageUnitSeparator, ProgramDataSeparator}
-use Rattle.separator.specs.{Separator.newline_to, Separator.comma_to, declared.Pass.Pass}
+use Rattle.separator.specs.{Separator.newline_to, Separator.comma_to}
 use Rattle.tokenizer.specs.Step.{taken, refusal, ended, step}
 use Rattle.tokenizer.specs.{declared.State.State, declared.Step.Step}
 use Rattle.tokenizer.specs.declared.Answer.TheVariants as answer
@@ -47,7 +49,7 @@ module _ (s : List ℕ) (at : ℕ) where
   end_met h = met_step s st (record { answer = answer.End; state = st }) (end' s st h)
 
   module _ (h : at < length s) where
-    abbrev k : ℕ
+    abbrev k : Kind
     k = kind_of (get_or s at 0)
 
     pub unit_met : get_or s at 0 ≡ 59 → met_at s st ≡ met_with entry.End (record { place = run_end is_white_space s (at + 1); in_header = true; in_common = false })
@@ -56,28 +58,28 @@ module _ (s : List ℕ) (at : ℕ) where
         let y = taken ProgramMessageUnitSeparator (run_end is_white_space s (at + 1)) true false in
         met_step s st y (semicolon' s st h k refl y (rw e) refl)
 
-    module _ (p : Pass) where
+    module _ (p : Result ℕ ErrorCode) where
       module _ (e : get_or s at 0 ≡ 44) (ep : p ≡ comma_to s (at + 1) false) where
-        pub comma_met : (next : ℕ) → p ≡ Pass.To next → met_at s st ≡ met_with entry.Comma (among next)
+        pub comma_met : (next : ℕ) → p ≡ Ok next → met_at s st ≡ met_with entry.Comma (among next)
         unfolding kind_of is_white_space taken
         comma_met next q =
             let y = taken ProgramDataSeparator next false false in
             met_step s st y (comma' s st h k refl y (rw e) (comma_is' s st (at + 1) p y ep (pass_to' s st p ProgramDataSeparator false y next q refl)))
 
-        pub comma_refused : (c : ErrorCode) → p ≡ Pass.Refused c → met_at s st ≡ met_with (entry.Refused c) (among (length s))
+        pub comma_refused : (c : ErrorCode) → p ≡ Err c → met_at s st ≡ met_with (entry.Refused c) (among (length s))
         unfolding kind_of is_white_space refusal
         comma_refused c q =
             let y = refusal s st c in
             met_step s st y (comma' s st h k refl y (rw e) (comma_is' s st (at + 1) p y ep (pass_refused' s st p ProgramDataSeparator false y c q refl)))
 
       module _ (e : get_or s at 0 ≡ 10) (ep : p ≡ newline_to s (at + 1)) where
-        pub newline_met : (next : ℕ) → p ≡ Pass.To next → met_at s st ≡ met_with entry.End (among next)
+        pub newline_met : (next : ℕ) → p ≡ Ok next → met_at s st ≡ met_with entry.End (among next)
         unfolding kind_of ended
         newline_met next q =
             let y = ended (among next) next in
             met_step s st y (newline' s st h k refl y (rw e) (newline_to' s st (at + 1) p y ep next q refl))
 
-        pub newline_refused : (c : ErrorCode) → p ≡ Pass.Refused c → met_at s st ≡ met_with (entry.Refused c) (among (length s))
+        pub newline_refused : (c : ErrorCode) → p ≡ Err c → met_at s st ≡ met_with (entry.Refused c) (among (length s))
         unfolding kind_of refusal
         newline_refused c q =
             let y = refusal s st c in

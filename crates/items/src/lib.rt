@@ -8,31 +8,30 @@ ghost use Rattle.items.specs.Internal.{begins_number, begins_data, ItemAt, newli
 
 use error::ErrorCode;
 use item::Read;
-use separator::Pass;
 use tokenizer::{Answer, State};
 
 // How many items a unit has, and the place after what ended them.
 #[derive(Clone, Copy)]
-pub enum Data {
-    Items { count: usize, place: usize },
-    Refused(ErrorCode),
+pub struct Data {
+    pub count: usize,
+    pub place: usize,
 }
 
 // Counts the items of data from a place after the header separator on: none, or items with single commas between them.
-pub fn count(s: &[u8], first: usize) -> Data
+pub fn count(s: &[u8], first: usize) -> Result<Data, ErrorCode>
     ensures { Items s.now (state_of first false false) result }
 {
     if s.len() <= first {
-        return Data::Items {
+        return Ok(Data {
             count: 0,
             place: first,
-        };
+        });
     }
     if s[first] == b';' {
-        return Data::Items {
+        return Ok(Data {
             count: 0,
             place: util::skip_ws(s, first + 1),
-        };
+        });
     }
     if s[first] == b'\n' {
         return at_newline(s, first + 1);
@@ -40,36 +39,29 @@ pub fn count(s: &[u8], first: usize) -> Data
     let mut count = 0;
     let mut place = first;
     loop {
-        match read_item(s, place) {
-            Read::Refused(e) => return Data::Refused(e),
-            Read::Token { token: _, next } => {
-                count += 1;
-                if s.len() <= next {
-                    return Data::Items { count, place: next };
-                }
-                if s[next] == b';' {
-                    return Data::Items {
-                        count,
-                        place: util::skip_ws(s, next + 1),
-                    };
-                }
-                match separator::comma(s, next + 1, false) {
-                    Pass::Refused(e) => return Data::Refused(e),
-                    Pass::To(after) => place = after,
-                }
-            }
+        let (_, next) = read_item(s, place)?;
+        count += 1;
+        if s.len() <= next {
+            return Ok(Data { count, place: next });
         }
+        if s[next] == b';' {
+            return Ok(Data {
+                count,
+                place: util::skip_ws(s, next + 1),
+            });
+        }
+        place = separator::comma(s, next + 1, false)?;
     }
 }
 
 // At a newline there are no items: it ends the text, or it is refused.
-fn at_newline(s: &[u8], next: usize) -> Data
+fn at_newline(s: &[u8], next: usize) -> Result<Data, ErrorCode>
     ensures { result ≡ newline_data s.now next }
 {
-    match separator::newline(s, next) {
-        Pass::Refused(e) => Data::Refused(e),
-        Pass::To(place) => Data::Items { count: 0, place },
-    }
+    Ok(Data {
+        count: 0,
+        place: separator::newline(s, next)?,
+    })
 }
 
 // The item of data at a place, by the byte that it begins with.
@@ -77,7 +69,7 @@ fn read_item(s: &[u8], at: usize) -> Read
     ensures { ItemAt s.now at result }
 {
     if s.len() <= at {
-        return Read::Refused(ErrorCode::SyntaxError);
+        return Err(ErrorCode::SyntaxError);
     }
     let b = s[at];
     if b == b'(' {
@@ -111,9 +103,9 @@ fn no_item(s: &[u8], at: usize) -> Read
     );
     let answer = step.answer;
     match answer {
-        Answer::End => Read::Refused(ErrorCode::SyntaxError),
-        Answer::Refused(e) => Read::Refused(e),
-        Answer::Token(_) => Read::Refused(ErrorCode::SyntaxError),
+        Answer::End => Err(ErrorCode::SyntaxError),
+        Answer::Refused(e) => Err(e),
+        Answer::Token(_) => Err(ErrorCode::SyntaxError),
     }
 }
 

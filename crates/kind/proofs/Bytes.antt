@@ -7,19 +7,20 @@ use native.Mathlib.Nat.{add-zero, zero-add, add-suc, suc-add, le_of_suc-le-suc, 
 use lib.Dec.{T}
 use lib.ListN.{get_or}
 
--- the list f i, f (i + 1), .., of n entries
-abbrev pub table : (ℕ → ℕ) → ℕ → ℕ → List ℕ
-table f i zero = []
-table f i (suc n) = f i ∷ table f (suc i) n
+module _ {A : Type 0} (d : A) where
+  -- the list f i, f (i + 1), .., of n entries
+  abbrev pub table : (ℕ → A) → ℕ → ℕ → List A
+  table f i zero = []
+  table f i (suc n) = f i ∷ table f (suc i) n
 
-from : (f : ℕ → ℕ) (n i k : ℕ) → k < n → get_or (table f i n) k 0 ≡ f (i + k)
-from f zero i k h = absurd (not-suc-le-zero h)
-from f (suc n) i zero h = ap f (sym (add-zero i))
-from f (suc n) i (suc k) h = from f n (suc i) k (le_of_suc-le-suc h) ∙ ap f (suc-add i k ∙ sym (add-suc i k))
+  from : (f : ℕ → A) (n i k : ℕ) → k < n → get_or (table f i n) k d ≡ f (i + k)
+  from f zero i k h = absurd (not-suc-le-zero h)
+  from f (suc n) i zero h = ap f (sym (add-zero i))
+  from f (suc n) i (suc k) h = from f n (suc i) k (le_of_suc-le-suc h) ∙ ap f (suc-add i k ∙ sym (add-suc i k))
 
--- entry k of the list f 0, .., f (n - 1) is f k; a constant table that is this list needs no second copy
-pub entry : (f : ℕ → ℕ) (n k : ℕ) → k < n → get_or (table f 0 n) k 0 ≡ f k
-entry f n k h = from f n 0 k h ∙ ap f (zero-add k)
+  -- entry k of the list f 0, .., f (n - 1) is f k; a constant table that is this list needs no second copy
+  pub entry : (f : ℕ → A) (n k : ℕ) → k < n → get_or (table f 0 n) k d ≡ f k
+  entry f n k h = from f n 0 k h ∙ ap f (zero-add k)
 
 -- two tests give the same on the n numbers from i on
 abbrev pub agree : (ℕ → Bool) → (ℕ → Bool) → ℕ → ℕ → Bool

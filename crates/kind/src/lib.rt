@@ -3,52 +3,38 @@
 
 mod kinds;
 
-ghost use Rattle.std.specs.Prelude.{◌≡◌};
+ghost use Rattle.std.specs.Prelude.{◌≡◌, ℕ, Bool};
 ghost use Rattle.kind.specs.Class.{is_white_space, is_capital, is_small, is_digit, is_letter, in_mnemonic, is_sign};
 ghost use Rattle.kind.specs.Kind.{kind_of};
 
 use kinds::KINDS;
 
-// The kinds by name; the table is written in these.
-// White space is the first two, letters the last two, and what may stand in a mnemonic the last four.
-pub const NEWLINE: u8 = 0;
-
-pub const BLANK: u8 = 1;
-
-pub const STAR: u8 = 2;
-
-pub const COLON: u8 = 3;
-
-pub const QUESTION: u8 = 4;
-
-pub const SEMICOLON: u8 = 5;
-
-pub const COMMA: u8 = 6;
-
-pub const SIGN: u8 = 7;
-
-pub const POINT: u8 = 8;
-
-pub const HASH: u8 = 9;
-
-pub const QUOTE: u8 = 10;
-
-pub const PARENTHESIS: u8 = 11;
-
-pub const OTHER: u8 = 12;
-
-pub const BEYOND: u8 = 13;
-
-pub const UNDERSCORE: u8 = 14;
-
-pub const DIGIT: u8 = 15;
-
-pub const SMALL: u8 = 16;
-
-pub const CAPITAL: u8 = 17;
+// The characters that the token step tells apart. White space is the first two, letters the last two, and what may stand in a mnemonic the
+// last four.
+#[derive(Clone, Copy, PartialEq, Eq)]
+pub enum Kind {
+    Newline,
+    Blank,
+    Star,
+    Colon,
+    Question,
+    Semicolon,
+    Comma,
+    Sign,
+    Point,
+    Hash,
+    Quote,
+    Parenthesis,
+    Other,
+    Beyond,
+    Underscore,
+    Digit,
+    Small,
+    Capital,
+}
 
 // The kind of a byte.
-pub fn kind(b: u8) -> u8
+pub fn kind_of(b: u8) -> Kind
     ensures { result ≡ kind_of b }
 {
     KINDS[b as usize]
@@ -59,55 +45,31 @@ pub fn kind(b: u8) -> u8
 pub fn is_white_space(b: u8) -> bool
     ensures { result ≡ is_white_space b }
 {
-    if b' ' < b {
-        return false;
-    }
-    if b == b' ' {
-        return true;
-    }
-    if b < b'\t' {
-        return false;
-    }
-    if b'\r' < b {
-        return false;
-    }
-    b != 11
+    b.is_ascii_whitespace()
 }
 
 pub fn is_capital(b: u8) -> bool
     ensures { result ≡ is_capital b }
 {
-    if b < b'A' {
-        return false;
-    }
-    b <= b'Z'
+    b.is_ascii_uppercase()
 }
 
 pub fn is_small(b: u8) -> bool
     ensures { result ≡ is_small b }
 {
-    if b < b'a' {
-        return false;
-    }
-    b <= b'z'
+    b.is_ascii_lowercase()
 }
 
 pub fn is_digit(b: u8) -> bool
     ensures { result ≡ is_digit b }
 {
-    if b < b'0' {
-        return false;
-    }
-    b <= b'9'
+    b.is_ascii_digit()
 }
 
 pub fn is_letter(b: u8) -> bool
     ensures { result ≡ is_letter b }
 {
-    if is_capital(b) {
-        return true;
-    }
-    is_small(b)
+    is_capital(b) || is_small(b)
 }
 
 // What may stand in a mnemonic behind its first letter.
@@ -130,4 +92,52 @@ pub fn is_sign(b: u8) -> bool
         return true;
     }
     b == b'-'
+}
+
+// A class of characters, of which a run is made.
+pub trait Class {
+    ghost class: { ℕ → Bool };
+
+    fn has(b: u8) -> bool
+        ensures { result ≡ class b };
+}
+
+pub struct WhiteSpace;
+
+impl Class for WhiteSpace {
+    ghost class = { is_white_space };
+
+    fn has(b: u8) -> bool {
+        is_white_space(b)
+    }
+}
+
+pub struct Digit;
+
+impl Class for Digit {
+    ghost class = { is_digit };
+
+    fn has(b: u8) -> bool {
+        is_digit(b)
+    }
+}
+
+pub struct Small;
+
+impl Class for Small {
+    ghost class = { is_small };
+
+    fn has(b: u8) -> bool {
+        is_small(b)
+    }
+}
+
+pub struct Capital;
+
+impl Class for Capital {
+    ghost class = { is_capital };
+
+    fn has(b: u8) -> bool {
+        is_capital(b)
+    }
 }

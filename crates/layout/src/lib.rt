@@ -16,28 +16,23 @@ const LONGEST_NAME: usize = 12;
 pub fn has_wrong_count(nodes: &[u64]) -> bool
     ensures { Decides (NodeCount nodes.now) result }
 {
-    if nodes.len() == 0 {
-        return true;
-    }
-    MOST_NODES < nodes.len()
+    nodes.is_empty() || MOST_NODES < nodes.len()
 }
 
 // Fault 2: fields that a root or a node may not have.
 pub fn has_wrong_fields(nodes: &[u64]) -> bool
     ensures { Decides (NodeFields nodes.now) result }
 {
-    if nodes.len() == 0 {
+    if nodes.is_empty() {
         return true;
     }
     if !is_root(nodes[0]) {
         return true;
     }
-    let mut k = 0;
-    while k < nodes.len() {
-        if !has_fields(nodes[k]) {
+    for word in nodes {
+        if !has_fields(*word) {
             return true;
         }
-        k += 1;
     }
     false
 }
@@ -76,8 +71,7 @@ pub fn has_wrong_blocks(nodes: &[u64]) -> bool
     ensures { Decides (ChildBlocks nodes.now) result }
 {
     let mut behind = 1;
-    let mut k = 0;
-    while k < nodes.len() {
+    for k in 0..nodes.len() {
         let word = nodes[k];
         if node::is_branch(word) {
             let block = branch::block_of(word);
@@ -88,9 +82,6 @@ pub fn has_wrong_blocks(nodes: &[u64]) -> bool
                 return true;
             }
             behind = block.to;
-            k += 1;
-        } else {
-            k += 1;
         }
     }
     behind != nodes.len()
@@ -100,12 +91,10 @@ pub fn has_wrong_blocks(nodes: &[u64]) -> bool
 pub fn has_wrong_name(nodes: &[u64], names: &[u8]) -> bool
     ensures { Decides (NodeName nodes.now names.now) result }
 {
-    let mut k = 1;
-    while k < nodes.len() {
+    for k in 1..nodes.len() {
         if has_bad_name(nodes, names, k) {
             return true;
         }
-        k += 1;
     }
     false
 }

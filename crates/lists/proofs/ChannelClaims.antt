@@ -1,4 +1,5 @@
 -- Each step inside the text moves the place, and what it takes is an item; the claims.
+use Rattle.std.specs.Prelude.{Result, Ok, Err}
 use Prim.Native.Nat.{ℕ, ◌+◌, ◌≤◌, ◌<◌}
 use mathlib.Core.Path.{◌≡◌, refl, ◌∙◌, sym}
 use mathlib.Core.Logic.{⊎_elim}
@@ -14,7 +15,7 @@ use Rattle.kind.proofs.Tests.{by_test, either, or_left, or_right, and_left, and_
 use Rattle.util.specs.Run.{stands_at}
 use Rattle.util.proofs.Runs.{run_from}
 use Rattle.token.specs.{View.view_of, declared.View.View, declared.Token.TheVariants.StringProgramData}
-use Rattle.item.specs.declared.Read.{Read}
+use Rattle.token.specs.declared.Token.{Token as DataToken}
 use Rattle.forms.proofs.EnclosedClaims.{string_form}
 use Rattle.forms.proofs.ItemProgress.{run_moves}
 use Rattle.enclosed.specs.String.{string_end, string_data}
@@ -82,14 +83,14 @@ module _ (s : List ℕ) (st : State) (P : Step → Type 0) (refuses : (e : Error
           let i : at < end = spec_moves s at h k in
           by_test P (stands_at 58 s end) range_each (λ _. takes (Token.ChannelSpec (spec_at s at)) end i (k, (refl, refl, i)))
 
-    path_each : is_quote first ≡ true → (r : Read) → string_data first s (at + 1) ≡ r → P (path_of s st r)
+    path_each : is_quote first ≡ true → (r : Result (DataToken × ℕ) ErrorCode) → string_data first s (at + 1) ≡ r → P (path_of s st r)
     unfolding path_of
-    path_each k (Read.Token t next) e =
+    path_each k (Ok (t, next)) e =
         let v : View = view_of (at + 1) (string_end first s (at + 1)) in
         let q : t ≡ StringProgramData v = (string_token first s (at + 1) t next e).0 in
         let f = string_form first s (at + 1) v next (e ∙ rw q) in
         rw q (takes (Token.PathName v) (v.end + 1) (omega (arith, f.1.forward)) (k, refl, f.1, refl, f.2.follows))
-    path_each k (Read.Refused x) e = refuses x
+    path_each k (Err x) e = refuses x
 
     item_each : P (item_at s st at)
     unfolding item_at path_at

@@ -1,8 +1,8 @@
 -- The claims.
+use Rattle.std.specs.Prelude.{Result, Ok, Err, Option, Some, None}
 use Prim.Native.Nat.{ℕ, zero, suc, ◌+◌, ◌/◌, ◌%◌, ◌^◌, ◌≤◌, ◌<◌}
 use mathlib.Core.Path.{◌≡◌, refl, sym, ap, ◌∙◌}
 use mathlib.Core.List.{List, [], ◌∷◌, ◌++◌, append-nil}
-use mathlib.Core.Option.{Option, none, some}
 use mathlib.Core.Logic.{⊎_elim}
 use mathlib.Core.Bool.{true, false, ◌&&◌, true≢false, and-false}
 use native.Mathlib.Omega.{arith}
@@ -16,22 +16,22 @@ use Rattle.kind.specs.Class.{is_digit, is_sign}
 use Rattle.kind.proofs.Tests.{and_left, and_both, by_test, less_or_not}
 use Rattle.util.specs.{Run.stands_at, Run.every, Walk.after}
 use Rattle.util.proofs.{Walks.arrives, Every.every_join}
-use Rattle.integer.specs.{Digit.digit_of, Digit.value_of, Number.digits, Number.signed_at, declared.Signed.Signed}
+use Rattle.integer.specs.{Digit.digit_of, Digit.value_of, Number.signed_at}
 use Rattle.forms.proofs.IntegerClaims as number
+use Rattle.forms.proofs.Pairs.{ok_pair}
 use Rattle.forms.proofs.ItemSeams.{here_inside, here_stands, here_next}
 use Rattle.channel_spec.specs.Spec.{bang, bangs, dimension_of}
 use Rattle.channel_spec.specs.Item.{refusal, bang_end, item_step, item_of, item_at}
 use Rattle.coordinate.specs.Coordinate.{parts, integer, both, integers, written, coordinate_of, pair_of, triple_of}
 use Rattle.coordinate.specs.Form.{signed_by, Decimal, Coordinates, Walk}
-use Rattle.coordinate.specs.{Form.Coordinates.one, Form.Coordinates.more, Form.Walk.ends, Form.Walk.gives, declared.Pair.Pair}
+use Rattle.coordinate.specs.{Form.Coordinates.one, Form.Coordinates.more, Form.Walk.ends, Form.Walk.gives}
 use Rattle.coordinate.proofs.Parts.{Read, some_byte, decimal_read, integer_form, Front, front_of, plain, whole_plain, parts_before, integer_of, integer_is}
 use Rattle.channel_spec.proofs.Specs.{end'}
 use Rattle.coordinate.proofs.Coordinates.{bangs_joined, bangs_plain, one'}
 use Rattle.channel_spec.specs.declared.Item.TheVariants as item
-use Rattle.coordinate.specs.declared.Coordinate.TheVariants as coordinate
 use Rattle.channel_spec.specs.declared.Step.{Step}
-use Rattle.coordinate.specs.declared.Triple.{Triple}
 use Rattle.lists.specs.CoordinateClaims.{Claims}
+use Rattle.integer.specs.declared.NumberError.{NumberError}
 
 -- Every number has its digits: those of its tenth, and the last.
 record Digits (n : ℕ) : Type 0 where
@@ -84,7 +84,7 @@ writable (pos n) h = written_with [] (omega arith) refl n (pos n) refl h
 writable (negsuc n) h = written_with (45 ∷ []) (omega arith) refl (suc n) (negsuc n) refl h
 
 -- Coordinates, one after the other.
-coordinates_read : (t : List ℕ) (vs : List ℤ) → Coordinates t vs → written t ≡ some vs
+coordinates_read : (t : List ℕ) (vs : List ℤ) → Coordinates t vs → written t ≡ Some vs
 unfolding written integers both parts
 coordinates_read t vs (one w v d) =
     let p : parts w ≡ w ∷ [] = ap parts (sym (append-nil w)) ∙ parts_before w [] [] [] refl (whole_plain w d.form) ∙ ap (λ (x : List ℕ). x ∷ []) (append-nil w) in
@@ -93,13 +93,13 @@ coordinates_read t vs (more w u v ws d c) =
     rw (parts_before w (33 ∷ u) [] (parts u) refl (whole_plain w d.form), append-nil w, integer_of w v d, coordinates_read u ws c)
 
 -- where there are values, there is a first and there are others
-values_apart : (o : Option ℤ) (m : Option (List ℤ)) (vs : List ℤ) → both o m ≡ some vs → (v : ℤ) × (ws : List ℤ) × (o ≡ some v) × (m ≡ some ws) × (vs ≡ v ∷ ws)
+values_apart : (o : Option ℤ) (m : Option (List ℤ)) (vs : List ℤ) → both o m ≡ Some vs → (v : ℤ) × (ws : List ℤ) × (o ≡ Some v) × (m ≡ Some ws) × (vs ≡ v ∷ ws)
 unfolding both
-values_apart none m vs e = absurd (true≢false (cc))
-values_apart (some v) none vs e = absurd (true≢false (cc))
-values_apart (some v) (some ws) vs e = (v, ws, refl, refl, cc)
+values_apart None m vs e = absurd (true≢false (cc))
+values_apart (Some v) None vs e = absurd (true≢false (cc))
+values_apart (Some v) (Some ws) vs e = (v, ws, refl, refl, cc)
 
-read_coordinates : (ps : List (List ℕ)) (t : List ℕ) (vs : List ℤ) → parts t ≡ ps → integers ps ≡ some vs → Coordinates t vs
+read_coordinates : (ps : List (List ℕ)) (t : List ℕ) (vs : List ℤ) → parts t ≡ ps → integers ps ≡ Some vs → Coordinates t vs
 unfolding integers
 read_coordinates [] t vs e q = absurd (omega (arith, ap length (sym (front_of t).split ∙ e)))
 read_coordinates (p ∷ ps) t vs e q = go (values_apart (integer p) (integers ps) vs q) (read_coordinates ps)
@@ -113,8 +113,8 @@ read_coordinates (p ∷ ps) t vs e q = go (values_apart (integer p) (integers ps
     whole_text : t ≡ p ++ f.back
     whole_text = cc (f.joint, same)
 
-    go : (v : ℤ) × (ws : List ℤ) × (integer p ≡ some v) × (integers ps ≡ some ws) × (vs ≡ v ∷ ws)
-        → ((u : List ℕ) (ws : List ℤ) → parts u ≡ ps → integers ps ≡ some ws → Coordinates u ws) → Coordinates t vs
+    go : (v : ℤ) × (ws : List ℤ) × (integer p ≡ Some v) × (integers ps ≡ Some ws) × (vs ≡ v ∷ ws)
+        → ((u : List ℕ) (ws : List ℤ) → parts u ≡ ps → integers ps ≡ Some ws → Coordinates u ws) → Coordinates t vs
     go (v, ws, ei, em, ev) rest =
         ⊎_elim (λ (k : (f.others ≡ []) × (f.back ≡ [])).
         let n : ps ≡ [] = cc same in
@@ -125,24 +125,26 @@ read_coordinates (p ∷ ps) t vs e q = go (values_apart (integer p) (integers ps
         rw (w, ev) (more p k.0 v ws (integer_is p v ei) (rest k.0 ws (cc same) em))) f.ends
 
 -- Two and three of them.
-two : (m : Option (List ℤ)) (a b : ℤ) → pair_of m ≡ Pair.Values a b → m ≡ some (a ∷ b ∷ [])
+two : (m : Option (List ℤ)) (a b : ℤ) → pair_of m ≡ Ok (a, b) → m ≡ Some (a ∷ b ∷ [])
 unfolding pair_of
-two (some (x ∷ y ∷ [])) a b q = cc
-two (some (x ∷ y ∷ z ∷ vs)) a b q = cc
-two (some (x ∷ [])) a b q = cc
-two (some []) a b q = cc
-two none a b q = cc
+two (Some (x ∷ y ∷ [])) a b q = let k = ok_pair q in rw (k.0, k.1)
+two (Some (x ∷ y ∷ z ∷ vs)) a b q = cc
+two (Some (x ∷ [])) a b q = cc
+two (Some []) a b q = cc
+two None a b q = cc
 
-three : (m : Option (List ℤ)) (a b c : ℤ) → triple_of m ≡ Triple.Values a b c → m ≡ some (a ∷ b ∷ c ∷ [])
+three : (m : Option (List ℤ)) (a b c : ℤ) → triple_of m ≡ Ok (a, b, c) → m ≡ Some (a ∷ b ∷ c ∷ [])
 unfolding triple_of
-three (some (x ∷ y ∷ z ∷ [])) a b c q = cc
-three (some (x ∷ y ∷ z ∷ w ∷ vs)) a b c q = cc
-three (some (x ∷ y ∷ [])) a b c q = cc
-three (some (x ∷ [])) a b c q = cc
-three (some []) a b c q = cc
-three none a b c q = cc
+three (Some (x ∷ y ∷ z ∷ [])) a b c q =
+    let e : ◌≡◌ {A = ℤ × ℤ × ℤ} (x, y, z) (a, b, c) = cc in
+    rw (ap (λ (p : ℤ × ℤ × ℤ). p.0) e, ap (λ (p : ℤ × ℤ × ℤ). p.1) e, ap (λ (p : ℤ × ℤ × ℤ). p.2) e)
+three (Some (x ∷ y ∷ z ∷ w ∷ vs)) a b c q = cc
+three (Some (x ∷ y ∷ [])) a b c q = cc
+three (Some (x ∷ [])) a b c q = cc
+three (Some []) a b c q = cc
+three None a b c q = cc
 
-one_read : (t : List ℕ) (a : ℤ) → Decimal t a → coordinate_of t ≡ coordinate.Value a
+one_read : (t : List ℕ) (a : ℤ) → Decimal t a → coordinate_of t ≡ Ok a
 unfolding bangs is_digit
 one_read t a d =
     let k : length t ≤ 0 + length t = omega arith in
@@ -160,13 +162,13 @@ module _ (s : List ℕ) (at : ℕ) where
   rests : length s ≤ at → item_at s at ≡ record { item = item.End; place = at }
   rests h = sym (end' s at h)
 
-  item_moves : (i : ℕ) → at ≤ i → at < length s → (r : Signed) → signed_at s i ≡ r → at < (item_step s r).place
+  item_moves : (i : ℕ) → at ≤ i → at < length s → (r : Result (ℤ × ℕ) NumberError) → signed_at s i ≡ r → at < (item_step s r).place
   unfolding item_step refusal
-  item_moves i k h (Signed.Value v end) e =
+  item_moves i k h (Ok (v, end)) e =
       let r : Read s i v end = integer_form s i v end e in
       omega (arith, k, r.behind, some_byte r.word v r.decimal)
-  item_moves i k h Signed.NoDigit e = h
-  item_moves i k h Signed.TooLarge e = h
+  item_moves i k h (Err NumberError.NoDigit) e = h
+  item_moves i k h (Err NumberError.TooLarge) e = h
 
   bang_from : at ≤ bang_end s at
   unfolding bang_end

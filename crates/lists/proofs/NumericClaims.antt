@@ -1,4 +1,5 @@
 -- Each step inside the text moves the place, and what it takes is an item; the claims.
+use Rattle.std.specs.Prelude.{Result, Ok, Err}
 use Prim.Native.Nat.{ℕ, ◌+◌, ◌<◌, ◌≤◌}
 use mathlib.Core.Path.{◌≡◌, refl, sym}
 use mathlib.Core.List.{List, [], ◌∷◌, ◌++◌}
@@ -10,7 +11,6 @@ use borrow.Author.Tests.{lt-leb}
 use Rattle.kind.proofs.Tests.{by_test, less_or_not}
 use Rattle.util.specs.Run.{stands_at}
 use Rattle.token.specs.View.{view_of, part_of}
-use Rattle.item.specs.declared.Read.{Read}
 use Rattle.forms.proofs.DecimalClaims.{nrf_form}
 use Rattle.forms.proofs.ItemProgress.{Behind, nrf_behind}
 use Rattle.forms.specs.DecimalForm.{Number, Stops}
@@ -27,24 +27,26 @@ use Rattle.forms.proofs.ItemSeams.{here_get, here_stands, here_next}
 use Rattle.forms.proofs.Decimals.{nrf_read}
 use Rattle.numeric_list.specs.declared.Answer.TheVariants.{Refused, End}
 use Rattle.numeric_list.proofs.List.{end'}
+use Rattle.error.specs.declared.ErrorCode.{ErrorCode}
+use Rattle.token.specs.declared.Token.{Token as DataToken}
 
 module _ (s : List ℕ) (st : State) (P : Step → Type 0) (refuses : P (refusal s st)) where
   -- What holds of a refusal and of every item that begins at a place, holds of what is there.
   module _ (at : ℕ) (takes : (t : Token) (next : ℕ) → at < next → Item s at t next → P (taken t next)) where
     range_each : (end : ℕ) → at < end → Number (part_of s (view_of at end)) → stands_at 58 s end ≡ true
-        → (r : Read) → nrf s (end + 1) ≡ r → Behind (end + 1) r → P (range_by s st (end + 1) (view_of at end) r)
+        → (r : Result (DataToken × ℕ) ErrorCode) → nrf s (end + 1) ≡ r → Behind (end + 1) r → P (range_by s st (end + 1) (view_of at end) r)
     unfolding range_by
-    range_each end h n c (Read.Token t next) e k =
+    range_each end h n c (Ok (t, next)) e k =
         takes (NumericRange (view_of at end) (view_of (end + 1) next)) next (omega (arith, h, k)) (refl, n, c, refl, (nrf_form s (end + 1) t next e).1)
-    range_each end h n c (Read.Refused x) e k = refuses
+    range_each end h n c (Err x) e k = refuses
 
-    item_by : (r : Read) → nrf s at ≡ r → Behind at r → P (item_step s st at r)
+    item_by : (r : Result (DataToken × ℕ) ErrorCode) → nrf s at ≡ r → Behind at r → P (item_step s st at r)
     unfolding item_step range_to
-    item_by (Read.Token t end) e h =
+    item_by (Ok (t, end)) e h =
         let n : Number (part_of s (view_of at end)) = (nrf_form s at t end e).1 in
         by_test P (stands_at 58 s end) (λ c. range_each end h n c (nrf s (end + 1)) refl (nrf_behind s (end + 1)))
         (λ _. takes (Numeric (view_of at end)) end h (refl, n))
-    item_by (Read.Refused x) e h = refuses
+    item_by (Err x) e h = refuses
 
     item_each : P (item_at s st at)
     unfolding item_at

@@ -1,5 +1,5 @@
 -- What is proved of channel specs and their coordinates, besides the promises of the functions. The proofs are in proofs/CoordinateClaims.
-use Rattle.std.specs.Prelude.{ℕ, ◌^◌, ◌≤◌, ◌<◌, ◌≡◌, List, [], ◌∷◌, ℤ, length}
+use Rattle.std.specs.Prelude.{ℕ, ◌^◌, ◌≤◌, ◌<◌, ◌≡◌, List, [], ◌∷◌, ℤ, length, Result, Ok}
 use Rattle.std.specs.Int.Signed.{mag}
 use Rattle.util.specs.Walk.{after}
 use Rattle.channel_spec.specs.Spec.{dimension_of}
@@ -7,17 +7,13 @@ use Rattle.channel_spec.specs.Item.{item_at}
 use Rattle.coordinate.specs.Coordinate.{written, coordinate_of, pair_of, triple_of}
 use Rattle.coordinate.specs.Form.{Decimal, Coordinates, Walk}
 use Rattle.channel_spec.specs.declared.Item.TheVariants as item
-use Rattle.coordinate.specs.declared.Coordinate.TheVariants as coordinate
-use Rattle.coordinate.specs.declared.Pair.{Pair}
-use Rattle.coordinate.specs.declared.Pair.TheVariants as pair
-use Rattle.coordinate.specs.declared.Triple.{Triple}
-use Rattle.coordinate.specs.declared.Triple.TheVariants as triple
+use Rattle.error.specs.declared.ErrorCode.{ErrorCode}
 
 -- what a text is as two and as three coordinates
-abbrev pub pair_in : List ℕ → Pair
+abbrev pub pair_in : List ℕ → Result (ℤ × ℤ) ErrorCode
 pair_in t = pair_of (written t)
 
-abbrev pub triple_in : List ℕ → Triple
+abbrev pub triple_in : List ℕ → Result (ℤ × ℤ × ℤ) ErrorCode
 triple_in t = triple_of (written t)
 
 pub record Claims : Type 0 where
@@ -25,12 +21,12 @@ pub record Claims : Type 0 where
   pub writable : (v : ℤ) → mag v < 2 ^ 63 → (t : List ℕ) × Decimal t v
   -- Integers written in decimal, with any zeros in front and an optional plus, and joined by `!`, are read as the same
   -- integers in the same order; and whatever is read was written so.
-  pub pair_read : (t : List ℕ) (a b : ℤ) → Coordinates t (a ∷ b ∷ []) → pair_in t ≡ pair.Values a b
-  pub pair_written : (t : List ℕ) (a b : ℤ) → pair_in t ≡ pair.Values a b → Coordinates t (a ∷ b ∷ [])
-  pub triple_read : (t : List ℕ) (a b c : ℤ) → Coordinates t (a ∷ b ∷ c ∷ []) → triple_in t ≡ triple.Values a b c
-  pub triple_written : (t : List ℕ) (a b c : ℤ) → triple_in t ≡ triple.Values a b c → Coordinates t (a ∷ b ∷ c ∷ [])
+  pub pair_read : (t : List ℕ) (a b : ℤ) → Coordinates t (a ∷ b ∷ []) → pair_in t ≡ Ok (a, b)
+  pub pair_written : (t : List ℕ) (a b : ℤ) → pair_in t ≡ Ok (a, b) → Coordinates t (a ∷ b ∷ [])
+  pub triple_read : (t : List ℕ) (a b c : ℤ) → Coordinates t (a ∷ b ∷ c ∷ []) → triple_in t ≡ Ok (a, b, c)
+  pub triple_written : (t : List ℕ) (a b c : ℤ) → triple_in t ≡ Ok (a, b, c) → Coordinates t (a ∷ b ∷ c ∷ [])
   -- one integer is read as one coordinate
-  pub one_read : (t : List ℕ) (a : ℤ) → Decimal t a → coordinate_of t ≡ coordinate.Value a
+  pub one_read : (t : List ℕ) (a : ℤ) → Decimal t a → coordinate_of t ≡ Ok a
   -- so many coordinates have that dimension
   pub dimension : (t : List ℕ) (vs : List ℤ) → Coordinates t vs → dimension_of t ≡ length vs
   -- the walk through coordinates gives them one after the other, and then ends

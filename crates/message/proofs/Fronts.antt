@@ -1,4 +1,5 @@
 -- Where a message ends, and where it does not.
+use Rattle.std.specs.Prelude.{Result, Ok, Err}
 use Prim.Native.Nat.{ℕ, ◌≤◌}
 use mathlib.Core.Path.{◌≡◌, refl, ap, ◌∙◌}
 use mathlib.Core.List.{List}
@@ -11,12 +12,13 @@ use Rattle.node.specs.Tree.{branch}
 use Rattle.tokenizer.specs.{declared.State.State, declared.Step.Step}
 use Rattle.tokens.proofs.StepClaims as tokens
 use Rattle.ahead.specs.{Seen.ahead_of, Seen.seen_at, declared.Seen.Seen}
-use Rattle.header.specs.{Header.Begins, declared.Header.Header}
+use Rattle.header.specs.{Header.Begins}
 use Rattle.header.specs.Header as begins
 use Rattle.unit.specs.Unit.{Reads, whole}
-use Rattle.unit.specs.declared.Unit.TheVariants as unit
 use Rattle.record.specs.declared.Record.{Record}
 use Rattle.message.specs.Message.{is_end}
+use Rattle.error.specs.declared.ErrorCode.{ErrorCode}
+use Rattle.header.specs.declared.Header.{Header}
 
 -- past the text a message ends
 pub past_text : (s : List ℕ) (st : State) → length s ≤ st.place → is_end (seen_at s st).ahead ≡ true
@@ -24,12 +26,12 @@ unfolding seen_at
 past_text s st h = ap (λ (x : Step). is_end (ahead_of x.answer)) ((tokens.claims).rests s st h)
 
 -- a header from the branch b that is not refused as one that is missing
-abbrev Present : List ℕ → ℕ → Header → Type 0
-Present t b (Header.Found c query kept x p) = Unit {0}
-Present t b (Header.Refused e) = (branch t b ≡ true) × (e ≡ refusal.SyntaxError → ⊥)
+abbrev Present : List ℕ → ℕ → Result Header ErrorCode → Type 0
+Present t b (Ok h) = Unit {0}
+Present t b (Err e) = (branch t b ≡ true) × (e ≡ refusal.SyntaxError → ⊥)
 
 -- such a header does not begin at the end of the text
-pub begun : {t names s : List ℕ} {b : ℕ} {seen : Seen} {h : Header} → Begins t names s b seen h → Present t b h → is_end seen.ahead ≡ false
+pub begun : {t names s : List ℕ} {b : ℕ} {seen : Seen} {h : Result Header ErrorCode} → Begins t names s b seen h → Present t b h → is_end seen.ahead ≡ false
 begun (begins.no_branch l) p = clash p.0 l
 begun (begins.first_refused _ e) p = ap is_end e
 begun (begins.no_header _ e) p = absurd (p.1 refl)
@@ -39,7 +41,7 @@ begun (begins.common _ e f r) p = ap is_end e
 begun (begins.from_branch _ e f r) p = ap is_end e
 
 -- nor does a unit that is read
-pub unit_begun : {t names s : List ℕ} {b : ℕ} {seen : Seen} {u : Record} {p : ℕ} → Reads t names s b seen (unit.Read u p) → is_end seen.ahead ≡ false
+pub unit_begun : {t names s : List ℕ} {b : ℕ} {seen : Seen} {u : Record} {p : ℕ} → Reads t names s b seen (Ok (u, p)) → is_end seen.ahead ≡ false
 unit_begun (whole y x) = begun y tt
 
 -- what is seen is seen again, as the code meets it

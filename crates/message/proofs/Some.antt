@@ -1,4 +1,5 @@
 -- Every message has units and an ending.
+use Rattle.std.specs.Prelude.{Result, Ok, Err}
 use Prim.Native.Nat.{ℕ, zero, suc, ◌-◌, ◌≤◌, ◌<◌}
 use mathlib.Core.Path.{◌≡◌, refl}
 use mathlib.Core.Logic.{◌⊎◌, inl, inr, ⊎_elim}
@@ -11,11 +12,12 @@ use Rattle.node.specs.Tree.{branch}
 use Rattle.tokenizer.specs.{Step.state_of, declared.State.State}
 use Rattle.tokens.proofs.StepClaims as tokens
 use Rattle.ahead.specs.Seen.{seen_at}
-use Rattle.unit.specs.{Unit.Reads, declared.Unit.Unit}
+use Rattle.unit.specs.{Unit.Reads}
 use Rattle.units.proofs.UnitClaims as units
 use Rattle.record.specs.declared.Record.{Record}
 use Rattle.message.specs.Message.{beginning_at, is_end, Ending, Units, none, stopped, next, Message, no_branch, too_long, text}
 use Rattle.message.proofs.Fronts.{past_text}
+use Rattle.error.specs.declared.ErrorCode.{ErrorCode}
 
 -- a token that does not end the message moves the place
 pub inside : (s : List ℕ) (st : State) → is_end (seen_at s st).ahead ≡ false → (st.place < length s) × (st.place < (seen_at s st).state.place)
@@ -32,9 +34,9 @@ module _ (t names s : List ℕ) where
       go true x rest = (_, _, none x)
       go false x rest = let z = (units.claims).some_answer t names s b (beginning_at s p) in by_unit z.0 z.1
         where
-          by_unit : (r : Unit) → Reads t names s b (beginning_at s p) r → (us : List Record) × (e : Ending) × Units t names s b p us e
-          by_unit (Unit.Refused c) y = (_, _, stopped x y)
-          by_unit (Unit.Read u after) y =
+          by_unit : (r : Result (Record × ℕ) ErrorCode) → Reads t names s b (beginning_at s p) r → (us : List Record) × (e : Ending) × Units t names s b p us e
+          by_unit (Err c) y = (_, _, stopped x y)
+          by_unit (Ok (u, after)) y =
               let i = inside s (state_of p true false) x in
               let q = (units.claims).onward _ _ _ _ _ _ _ y in
               let z = rest u.branch after (omega (arith, l, i, q)) in

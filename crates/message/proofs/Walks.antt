@@ -1,4 +1,5 @@
 -- Laws of the walk, as the code meets them.
+use Rattle.std.specs.Prelude.{Result, Ok, Err}
 use Prim.Native.Nat.{ℕ, suc, ◌+◌, ◌-◌, ◌≤◌, ◌<◌}
 use mathlib.Core.Path.{◌≡◌, refl, sym, ap, subst, ◌∙◌}
 use mathlib.Core.List.{List, [], ◌∷◌, ◌++◌, map, append-nil, append_assoc}
@@ -10,10 +11,9 @@ use borrow.Author.Tests.{le-leb, lt-leb}
 use Rattle.error.specs.declared.ErrorCode.{ErrorCode}
 use Rattle.node.specs.Tree.{branch}
 use Rattle.tokenizer.specs.Step.{state_of}
-use Rattle.unit.specs.{Unit.Reads, declared.Unit.Unit}
+use Rattle.unit.specs.{Unit.Reads}
 use Rattle.record.specs.{Word.word_of, declared.Record.Record}
 use Rattle.message.specs.Message.{beginning_at, is_end, Ending, complete, refused, Units, none, stopped, next, written, told, recorded, Walks}
-use Rattle.message.specs.declared.Walked.TheVariants as walked
 use Rattle.message.proofs.{Fronts.past_text, Fronts.unit_begun, Some.some_units}
 
 -- the slots: one more word, and what does not fit
@@ -64,21 +64,21 @@ module _ (t names s : List ℕ) (start : ℕ) (before : List ℕ) (count kept p 
       let all : M so.units e = subst (λ (us : List Record). M us e) (append-nil so.units) (so.back [] e h) in
       record { units = so.units; ending = e; reads = all; outcome = rw (so.words, ← so.number, le-leb _ _ fits) }
 
-  pub past' : length s ≤ p → Walks M before (walked.Units count) slots
+  pub past' : length s ≤ p → Walks M before (Ok count) slots
   past' l = ends complete (none (past_text s (state_of p true false) l))
 
-  pub done' : (q : Bool) → q ≡ is_end (beginning_at s p).ahead → q ≡ true → Walks M before (walked.Units count) slots
+  pub done' : (q : Bool) → q ≡ is_end (beginning_at s p).ahead → q ≡ true → Walks M before (Ok count) slots
   done' q o h = ends complete (none (sym o ∙ h))
 
-  module _ (r : Unit) (y : Reads t names s kept (beginning_at s p) r) where
-    pub refused' : (q : Bool) → q ≡ is_end (beginning_at s p).ahead → q ≡ false → (e : ErrorCode) → r ≡ Unit.Refused e → Walks M before (walked.Refused count e) slots
+  module _ (r : Result (Record × ℕ) ErrorCode) (y : Reads t names s kept (beginning_at s p) r) where
+    pub refused' : (q : Bool) → q ≡ is_end (beginning_at s p).ahead → q ≡ false → (e : ErrorCode) → r ≡ Err e → Walks M before (Err (record { units = count; error = e })) slots
     refused' q o h e f = ends (refused e) (stopped (sym o ∙ h) (rw f at y))
 
-    module _ (u : Record) (after : ℕ) (f : r ≡ Unit.Read u after) where
+    module _ (u : Record) (after : ℕ) (f : r ≡ Ok (u, after)) where
       whole : (us : List Record) (e : Ending) → Units t names s u.branch after us e → M (so.units ++ (u ∷ us)) e
       whole us e x = so.back _ e (next (unit_begun (rw f at y)) (rw f at y) x)
 
-      pub full' : length slots ≤ count → Walks M before (walked.Refused count ErrorCode.NoSlotLeft) slots
+      pub full' : length slots ≤ count → Walks M before (Err (record { units = count; error = ErrorCode.NoSlotLeft })) slots
       unfolding recorded
       full' l =
           let rest = some_units t names s u.branch after in

@@ -1,12 +1,11 @@
 -- A program message: message units with `;` between them, IEEE 488.2 7.3 and 7.4.1, up to the end of the text; and its records. The token
 -- step takes a newline that is the last byte for the terminator (7.5), and another one, outside an item of data, for white space or a
 -- fault.
-use Rattle.std.specs.Prelude.{ℕ, ◌≤◌, ◌<◌, ◌≡◌, List, [], ◌∷◌, map, Bool, true, false, cond, leb, length}
+use Rattle.std.specs.Prelude.{ℕ, ◌≤◌, ◌<◌, ◌≡◌, List, [], ◌∷◌, map, Bool, true, false, cond, leb, length, Result, Ok, Err}
 use Rattle.error.specs.declared.ErrorCode.{ErrorCode}
 use Rattle.error.specs.declared.ErrorCode.TheVariants as refusal
 use Rattle.node.specs.Tree.{branch}
 use Rattle.table.specs.Fault.{Accepted, Verdict}
-use Rattle.table.specs.declared.Checked.TheVariants as checked
 use Rattle.tokenizer.specs.Step.{state_of}
 use Rattle.ahead.specs.Seen.{seen_at}
 use Rattle.ahead.specs.declared.Stop.{Stop}
@@ -16,11 +15,9 @@ use Rattle.ahead.specs.declared.Ahead.TheVariants as ahead
 use Rattle.ahead.specs.declared.Seen.{Seen}
 use Rattle.tree.specs.Alone.{longest_message}
 use Rattle.unit.specs.Unit.{Reads}
-use Rattle.unit.specs.declared.Unit.TheVariants as unit
 use Rattle.record.specs.Word.{word_of}
 use Rattle.record.specs.declared.Record.{Record}
-use Rattle.message.specs.declared.Walked.{Walked}
-use Rattle.message.specs.declared.Walked.TheVariants as walked
+use Rattle.message.specs.declared.Stopped.{Stopped}
 
 -- what is ahead at a place where a unit would begin: at the front of a message, or after a `;`
 abbrev pub beginning_at : List ℕ → ℕ → Seen
@@ -49,10 +46,10 @@ pub data Ending : Type 0 where
 pub data Units (t names s : List ℕ) : ℕ → ℕ → List Record → Ending → Type 0 where
   -- the text ends: at once, after a unit, or after one `;`, which the standard has only between units
   none : {b p : ℕ} → is_end (beginning_at s p).ahead ≡ true → Units t names s b p [] complete
-  stopped : {b p : ℕ} {e : ErrorCode} → is_end (beginning_at s p).ahead ≡ false → Reads t names s b (beginning_at s p) (unit.Refused e)
+  stopped : {b p : ℕ} {e : ErrorCode} → is_end (beginning_at s p).ahead ≡ false → Reads t names s b (beginning_at s p) (Err e)
       → Units t names s b p [] (refused e)
   next : {b p : ℕ} {u : Record} {after : ℕ} {us : List Record} {e : Ending} → is_end (beginning_at s p).ahead ≡ false
-      → Reads t names s b (beginning_at s p) (unit.Read u after) → Units t names s u.branch after us e
+      → Reads t names s b (beginning_at s p) (Ok (u, after)) → Units t names s u.branch after us e
       → Units t names s b p (u ∷ us) e
 
 -- Message t names b s us e: the message s, from the branch b of a table that is not checked, has the units us and then e.
@@ -66,7 +63,7 @@ pub data Message (t names : List ℕ) (b : ℕ) (s : List ℕ) : List Record →
 
 -- The message where the table is checked first: its smallest fault, 1 to 6, before all else.
 pub data CheckedMessage (t names : List ℕ) (b : ℕ) (s : List ℕ) : List Record → Ending → Type 0 where
-  fault : {e : ErrorCode} → Verdict t names (checked.Fault e) → CheckedMessage t names b s [] (refused e)
+  fault : {e : ErrorCode} → Verdict t names (Err e) → CheckedMessage t names b s [] (refused e)
   sound : {us : List Record} {e : Ending} → Accepted t names → Message t names b s us e → CheckedMessage t names b s us e
 
 -- the words stand in the first slots, as far as there are slots; the others keep theirs
@@ -76,25 +73,25 @@ written (w ∷ words) [] = []
 written (w ∷ words) (x ∷ slots) = w ∷ written words slots
 
 -- the answer behind n units, all of which are written
-abbrev pub told : ℕ → Ending → Walked
-told n complete = walked.Units n
-told n (refused e) = walked.Refused n e
+abbrev pub told : ℕ → Ending → Result ℕ Stopped
+told n complete = Ok n
+told n (refused e) = Err (record { units = n; error = e })
 
 -- what a walk answers, and the slots then
 pub record Outcome : Type 0 where
-  pub says : Walked
+  pub says : Result ℕ Stopped
   pub slots : List ℕ
 
 -- The outcome for these units and this ending: the record of each unit in a slot, in order; and 8 at the first unit that has no slot.
 unfoldable pub recorded : List ℕ → List Record → Ending → Outcome
 recorded slots us e =
     record {
-      says = cond (leb (length us) (length slots)) (told (length us) e) (walked.Refused (length slots) refusal.NoSlotLeft);
+      says = cond (leb (length us) (length slots)) (told (length us) e) (Err (record { units = length slots; error = refusal.NoSlotLeft }));
       slots = written (map word_of us) slots;
     }
 
 -- A walk over slots gives the answer r and leaves the slots after, where M says which units and which ending the message has.
-pub record Walks (M : List Record → Ending → Type 0) (slots : List ℕ) (r : Walked) (after : List ℕ) : Type 0 where
+pub record Walks (M : List Record → Ending → Type 0) (slots : List ℕ) (r : Result ℕ Stopped) (after : List ℕ) : Type 0 where
   pub units : List Record
   pub ending : Ending
   pub reads : M units ending

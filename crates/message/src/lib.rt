@@ -8,25 +8,29 @@ ghost use Rattle.ahead.specs.Seen.{seen_at};
 
 use ahead::{Ahead, Stop};
 use error::ErrorCode;
-use table::Checked;
 use tokenizer::State;
-use unit::Unit;
 
-// How many units were written; and what refused the next one, where a message is not read to its end.
+// A message that is not read to its end: how many units were written, and what refused the next one.
 #[derive(Clone, Copy)]
-pub enum Walked {
-    Units(usize),
-    Refused { units: usize, error: ErrorCode },
+pub struct Stopped {
+    pub units: usize,
+    pub error: ErrorCode,
 }
 
-// Walks a message from a branch of a table, which is checked first.
-pub fn walk(nodes: &[u64], names: &[u8], start: usize, s: &[u8], slots: &mut [u64]) -> Walked
+// Walks a message from a branch of a table, which is checked first. It answers how many units were written.
+pub fn walk(
+    nodes: &[u64],
+    names: &[u8],
+    start: usize,
+    s: &[u8],
+    slots: &mut [u64],
+) -> Result<usize, Stopped>
     ensures { Walks (CheckedMessage nodes.now names.now start s.now) slots.old result slots.new }
 {
-    match table::check(nodes, names) {
-        Checked::Fault(e) => Walked::Refused { units: 0, error: e },
-        Checked::Accepted => walk_accepted(nodes, names, start, s, slots),
+    if let Err(error) = table::check(nodes, names) {
+        return Err(Stopped { units: 0, error });
     }
+    walk_accepted(nodes, names, start, s, slots)
 }
 
 // Walks a message from a branch of a table that was accepted before. On a table with faults it answers as well, without looking for
@@ -37,27 +41,33 @@ pub fn walk_accepted(
     start: usize,
     s: &[u8],
     slots: &mut [u64],
-) -> Walked
+) -> Result<usize, Stopped>
     ensures { Walks (Message nodes.now names.now start s.now) slots.old result slots.new }
 {
     if !branch::is_branch(nodes, start) {
-        return Walked::Refused {
+        return Err(Stopped {
             units: 0,
             error: ErrorCode::StartIsNoBranch,
-        };
+        });
     }
     if tree::LONGEST_MESSAGE < s.len() {
-        return Walked::Refused {
+        return Err(Stopped {
             units: 0,
             error: ErrorCode::MessageTooLong,
-        };
+        });
     }
     walk_units(nodes, names, start, s, slots)
 }
 
 // The units from the front of the text on. No unit is read where the message ends, so past the text, and where a unit is refused, it is
 // asked whether it ends there.
-fn walk_units(nodes: &[u64], names: &[u8], start: usize, s: &[u8], slots: &mut [u64]) -> Walked
+fn walk_units(
+    nodes: &[u64],
+    names: &[u8],
+    start: usize,
+    s: &[u8],
+    slots: &mut [u64],
+) -> Result<usize, Stopped>
     ensures { Walks (Units nodes.now names.now s.now start 0) slots.old result slots.new }
 {
     let mut units = 0;
@@ -65,24 +75,21 @@ fn walk_units(nodes: &[u64], names: &[u8], start: usize, s: &[u8], slots: &mut [
     let mut place = 0;
     loop {
         if s.len() <= place {
-            return Walked::Units(units);
+            return Ok(units);
         }
         match unit::read(nodes, names, s, kept, place) {
-            Unit::Refused(e) => {
+            Err(error) => {
                 if sees_end(s, place) {
-                    return Walked::Units(units);
+                    return Ok(units);
                 }
-                return Walked::Refused { units, error: e };
+                return Err(Stopped { units, error });
             }
-            Unit::Read {
-                record,
-                place: next,
-            } => {
+            Ok((record, next)) => {
                 if slots.len() <= units {
-                    return Walked::Refused {
+                    return Err(Stopped {
                         units,
                         error: ErrorCode::NoSlotLeft,
-                    };
+                    });
                 }
                 units = put(slots, units, record::pack(record));
                 kept = record.branch;

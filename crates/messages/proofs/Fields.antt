@@ -1,4 +1,5 @@
 -- The records of a message in an accepted table: each field has room for its value, and there are no more units than bytes.
+use Rattle.std.specs.Prelude.{Ok}
 use Prim.Native.Nat.{ℕ, ◌-◌, ◌≤◌, ◌<◌}
 use mathlib.Core.Path.{◌≡◌}
 use mathlib.Core.Logic.{⊎_elim}
@@ -19,7 +20,6 @@ use Rattle.routes.proofs.TableClaims as tables
 use Rattle.tokenizer.specs.Step.{state_of}
 use Rattle.ahead.specs.declared.Seen.{Seen}
 use Rattle.unit.specs.Unit.{Reads}
-use Rattle.unit.specs.declared.Unit.TheVariants as unit
 use Rattle.units.proofs.UnitClaims as units
 use Rattle.message.specs.Message.{Ending, Units, stopped, next, Message, no_branch, too_long, text}
 use Rattle.message.specs.Message as message
@@ -35,7 +35,7 @@ module _ (t names s : List ℕ) (ok : Accepted t names) (short : length s ≤ 65
   abbrev Whole : Record → Type 0
   Whole u = (branch t u.branch ≡ true) × (record_in (word_of u) ≡ u)
 
-  one : {b : ℕ} {seen : Seen} {u : Record} {after : ℕ} → Reads t names s b seen (unit.Read u after) → Whole u
+  one : {b : ℕ} {seen : Seen} {u : Record} {after : ℕ} → Reads t names s b seen (Ok (u, after)) → Whole u
   one {u = u} y =
       let m = (units.claims).keeps _ _ _ _ _ _ _ y ((tables.claims).accepted t names ok).root in
       let items = (units.claims).few_items _ _ _ _ _ _ _ y in

@@ -1,4 +1,5 @@
 -- The slots behind a walk.
+use Rattle.std.specs.Prelude.{Result}
 use Prim.Native.Nat.{ℕ, zero, suc, ◌≤◌, ◌<◌}
 use mathlib.Core.Path.{◌≡◌, refl, ap}
 use mathlib.Core.Logic.{⊎_elim}
@@ -10,10 +11,10 @@ use Rattle.kind.proofs.Tests.{less_or_not}
 use Rattle.record.specs.{Word.word_of, declared.Record.Record}
 use Rattle.message.specs.Message.{Ending, complete, refused, Message, written, told, Outcome, recorded, Walks}
 use Rattle.messages.specs.MessageClaims.{counted}
-use Rattle.message.specs.declared.Walked.{Walked}
 use Rattle.message.proofs.Some.{some_message}
+use Rattle.message.specs.declared.Stopped.{Stopped}
 
-pub some_walk : (t names : List ℕ) (b : ℕ) (s slots : List ℕ) → (r : Walked) × (after : List ℕ) × Walks (Message t names b s) slots r after
+pub some_walk : (t names : List ℕ) (b : ℕ) (s slots : List ℕ) → (r : Result ℕ Stopped) × (after : List ℕ) × Walks (Message t names b s) slots r after
 some_walk t names b s slots =
     let z = some_message t names b s in
     (_, _, record { units = z.0; ending = z.1; reads = z.2; outcome = refl })
@@ -47,7 +48,7 @@ counts : (n : ℕ) (e : Ending) → counted (told n e) ≡ n
 counts n complete = refl
 counts n (refused e) = refl
 
-pub slots_kept : (M : List Record → Ending → Type 0) (slots : List ℕ) (r : Walked) (after : List ℕ) (w : Walks M slots r after) → Kept w.units slots (counted r) after
+pub slots_kept : (M : List Record → Ending → Type 0) (slots : List ℕ) (r : Result ℕ Stopped) (after : List ℕ) (w : Walks M slots r after) → Kept w.units slots (counted r) after
 unfolding recorded
 slots_kept M slots r after w =
     rw (ap (λ (o : Outcome). o.says) w.outcome, ap (λ (o : Outcome). o.slots) w.outcome)

@@ -1,5 +1,5 @@
 -- Laws of `numeric_suffix_start`, as a loop from the end meets them.
-use Prim.Native.Nat.{ℕ, zero, suc, pred, ◌-◌, ◌≤◌, ◌<◌}
+use Prim.Native.Nat.{ℕ, zero, suc, pred, ◌+◌, ◌-◌, ◌≤◌, ◌<◌}
 use mathlib.Core.Path.{◌≡◌, refl, sym, ap, ◌∙◌}
 use mathlib.Core.Logic.{◌⊎◌, inl, inr}
 use mathlib.Core.List.{List, [], ◌∷◌}
@@ -59,8 +59,8 @@ module _ (s : List ℕ) where
     none' h = sym (none_at i inv.digits h)
 
     module _ (r : Bool) (h : 0 < i) (e : r ≡ is_digit (get_or s (i - 1) 0)) where
-      pub stop' : not r ≡ true → i ≡ numeric_suffix_start s
-      stop' q = sym (stop_at i inv.within inv.digits h (rw sub-one at (sym e ∙ not-true r q)))
+      pub stop' : not r ≡ true → i - 1 + 1 ≡ numeric_suffix_start s
+      stop' q = let z : i - 1 + 1 ≡ i = omega arith in z ∙ sym (stop_at i inv.within inv.digits h (rw sub-one at (sym e ∙ not-true r q)))
 
       pub more' : (j : ℕ) → j ≡ i - 1 → not r ≡ false → Passed s j
       more' j k q = rw (k, sub-one) (more_at i inv.within inv.digits h (rw sub-one at (sym e ∙ not-false r q)))

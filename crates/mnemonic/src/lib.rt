@@ -1,10 +1,12 @@
 // Mnemonics: which spoken word is which name. tokenizer/util.rs of the original.
 #![tactic(auto)]
 
-ghost use Rattle.std.specs.Prelude.{◌≡◌};
+ghost use Rattle.std.specs.Prelude.{◌≡◌, ℕ, Bool, eqb};
 ghost use Rattle.kind.specs.Text.{ascii};
 ghost use Rattle.util.specs.Run.{every};
-ghost use Rattle.mnemonic.specs.Mnemonic.{either_case, alike, same, not_small, may_leave_out, compares, numeric_suffix_start, same_numeric_suffix, matches_parts, begins_otherwise, matches};
+ghost use Rattle.mnemonic.specs.Mnemonic.{either_case, same, not_small, may_leave_out, compares, numeric_suffix_start, same_numeric_suffix, matches_parts, begins_otherwise, matches, pairs};
+
+use kind::Class;
 
 // The same character, whichever case a letter is in.
 fn is_either_case(c: u8, d: u8) -> bool
@@ -22,59 +24,72 @@ fn is_either_case(c: u8, d: u8) -> bool
     false
 }
 
-// Equal in either case of their letters.
-fn is_alike(x: &[u8], y: &[u8]) -> bool
-    ensures { result ≡ alike x.now y.now }
+// A relation of two characters.
+trait Relation {
+    ghost relation: { ℕ → ℕ → Bool };
+
+    fn holds(c: u8, d: u8) -> bool
+        ensures { result ≡ relation c d };
+}
+
+// The same character.
+struct Equal;
+
+impl Relation for Equal {
+    ghost relation = { eqb };
+
+    fn holds(c: u8, d: u8) -> bool {
+        c == d
+    }
+}
+
+// The same character in either case.
+struct EitherCase;
+
+impl Relation for EitherCase {
+    ghost relation = { either_case };
+
+    fn holds(c: u8, d: u8) -> bool {
+        is_either_case(c, d)
+    }
+}
+
+// Whether two texts have one length, and the relation at each place. For equality too: the library's `==` of slices takes a kilobyte more, and a
+// third more instructions where the texts are short.
+fn are_pairs<R: Relation>(x: &[u8], y: &[u8]) -> bool
+    ensures { result ≡ pairs R.relation x.now y.now }
 {
     if x.len() != y.len() {
         return false;
     }
-    let mut i = 0;
-    while i < x.len() {
-        if !is_either_case(x[i], y[i]) {
+    for i in 0..x.len() {
+        if !R::holds(x[i], y[i]) {
             return false;
         }
-        i += 1;
     }
     true
 }
 
-// Equal byte for byte.
-fn is_equal(x: &[u8], y: &[u8]) -> bool
-    ensures { result ≡ same x.now y.now }
-{
-    if x.len() != y.len() {
-        return false;
+// What may stand in a short form.
+struct NotSmall;
+
+impl Class for NotSmall {
+    ghost class = { not_small };
+
+    fn has(b: u8) -> bool {
+        !kind::is_small(b)
     }
-    let mut i = 0;
-    while i < x.len() {
-        if x[i] != y[i] {
-            return false;
-        }
-        i += 1;
-    }
-    true
 }
 
-// A character that may stand in a short form.
-fn is_not_small(b: u8) -> bool
-    ensures { result ≡ not_small b }
-{
-    !kind::is_small(b)
-}
+// What a short form may leave out.
+struct MayLeaveOut;
 
-// Whether a text may be a short form.
-fn has_no_small(s: &[u8]) -> bool
-    ensures { result ≡ every not_small s.now }
-{
-    let mut i = 0;
-    while i < s.len() {
-        if !is_not_small(s[i]) {
-            return false;
-        }
-        i += 1;
+impl Class for MayLeaveOut {
+    ghost class = { may_leave_out };
+
+    fn has(b: u8) -> bool {
+        may_leave_out(b)
     }
-    true
 }
 
 // A character that a short form may leave out.
@@ -90,16 +105,14 @@ fn may_leave_out(b: u8) -> bool
     !kind::is_digit(b)
 }
 
-// Whether a short form may leave all of a text out.
-fn may_leave_out_all(s: &[u8]) -> bool
-    ensures { result ≡ every may_leave_out s.now }
+// Whether every character of a text is of the class.
+fn is_every<C: Class>(s: &[u8]) -> bool
+    ensures { result ≡ every C.class s.now }
 {
-    let mut i = 0;
-    while i < s.len() {
-        if !may_leave_out(s[i]) {
+    for b in s {
+        if !C::has(*b) {
             return false;
         }
-        i += 1;
     }
     true
 }
@@ -112,28 +125,26 @@ pub fn mnemonic_compare(mnemonic: &[u8], s: &[u8]) -> bool
     if mnemonic.len() < n {
         return false;
     }
-    if !is_alike(&mnemonic[..n], s) {
+    if !are_pairs::<EitherCase>(&mnemonic[..n], s) {
         return false;
     }
     if mnemonic.len() == n {
         return true;
     }
-    if !has_no_small(&mnemonic[..n]) {
+    if !is_every::<NotSmall>(&mnemonic[..n]) {
         return false;
     }
-    may_leave_out_all(&mnemonic[n..])
+    is_every::<MayLeaveOut>(&mnemonic[n..])
 }
 
 // The place where the digits that end a mnemonic begin: 3 in `ABC123`. Its length where there are none, or nothing else.
 pub fn mnemonic_split_index(mnemonic: &[u8]) -> usize
     ensures { result ≡ numeric_suffix_start mnemonic.now }
 {
-    let mut i = mnemonic.len();
-    while 0 < i {
-        if !kind::is_digit(mnemonic[i - 1]) {
-            return i;
+    for i in (0..mnemonic.len()).rev() {
+        if !kind::is_digit(mnemonic[i]) {
+            return i + 1;
         }
-        i -= 1;
     }
     mnemonic.len()
 }
@@ -142,26 +153,23 @@ pub fn mnemonic_split_index(mnemonic: &[u8]) -> usize
 fn is_one(s: &[u8]) -> bool
     ensures { result ≡ same s.now (ascii "1") }
 {
-    if s.len() != 1 {
-        return false;
-    }
-    s[0] == b'1'
+    are_pairs::<Equal>(s, b"1")
 }
 
 // Whether two numeric suffixes say the same; none says 1.
 pub fn is_same_numeric_suffix(x: &[u8], y: &[u8]) -> bool
     ensures { result ≡ same_numeric_suffix x.now y.now }
 {
-    if x.len() == 0 {
-        if y.len() == 0 {
+    if x.is_empty() {
+        if y.is_empty() {
             return true;
         }
         return is_one(y);
     }
-    if y.len() == 0 {
+    if y.is_empty() {
         return is_one(x);
     }
-    is_equal(x, y)
+    are_pairs::<Equal>(x, y)
 }
 
 // Whether the stem of a word is a form of the mnemonic's, and their numeric suffixes say the same.
@@ -179,10 +187,10 @@ fn match_parts(stem: &[u8], suffix: &[u8], word: &[u8], number: &[u8]) -> bool
 fn begins_otherwise(mnemonic: &[u8], s: &[u8]) -> bool
     ensures { result ≡ begins_otherwise mnemonic.now s.now }
 {
-    if mnemonic.len() == 0 {
+    if mnemonic.is_empty() {
         return false;
     }
-    if s.len() == 0 {
+    if s.is_empty() {
         return false;
     }
     mnemonic[0] % 32 != s[0] % 32

@@ -10,6 +10,8 @@ ghost use Rattle.mnemonic.specs.Spelling.{Name};
 ghost use Rattle.name.specs.Parts.{names_from};
 ghost use Rattle.name.specs.Share.{form_of, shares};
 
+use kind::Capital;
+
 // Whether a text is a name: perhaps a star, then capitals, small letters, and digits that do not start with 0.
 pub fn is_name(s: &[u8]) -> bool
     ensures { Decides (Name s.now) result }
@@ -50,21 +52,19 @@ fn has_form(mnemonic: &[u8], letters: &[u8]) -> bool
 fn short_end(s: &[u8]) -> usize
     ensures { result ≡ run not_small s.now }
 {
-    let mut i = 0;
-    while i < s.len() {
+    for i in 0..s.len() {
         if kind::is_small(s[i]) {
             return i;
         }
-        i += 1;
     }
-    i
+    s.len()
 }
 
 // Whether capitals, small letters and digits are all that stands from a place on.
 fn is_name_from(s: &[u8], at: usize) -> bool
     ensures { result ≡ names_from s.now at }
 {
-    let capitals = skip_capitals(s, at);
+    let capitals = util::run_end::<Capital>(s, at);
     if capitals <= at {
         return false;
     }
@@ -73,18 +73,4 @@ fn is_name_from(s: &[u8], at: usize) -> bool
         return false;
     }
     util::skip_digits(s, letters) == s.len()
-}
-
-// The place behind the capitals from a place on.
-fn skip_capitals(s: &[u8], at: usize) -> usize
-    ensures { result ≡ run_end is_capital s.now at }
-{
-    let mut end = at;
-    while end < s.len() {
-        if !kind::is_capital(s[end]) {
-            return end;
-        }
-        end += 1;
-    }
-    end
 }

@@ -1,4 +1,5 @@
-// The nodes of a command tree, each a word of 64 bits. `Node` of tree/mod.rs of the original.
+// The nodes of a command tree, each a word of 64 bits. `Node` of tree/mod.rs of the original. Each field is one shift and one remainder, so that one
+// function of their numbers would be no plainer, and the names would stand at its calls.
 #![tactic(auto)]
 
 ghost use Rattle.std.specs.Prelude.{◌≡◌};

@@ -1,4 +1,5 @@
 -- Laws of numeric lists, as the code meets them.
+use Rattle.std.specs.Prelude.{Result, Ok, Err, Option, Some, None}
 use Prim.Native.Nat.{ℕ, ◌+◌, ◌≤◌, ◌<◌}
 use mathlib.Core.Path.{◌≡◌, refl, ◌∙◌}
 use mathlib.Core.List.{List}
@@ -11,13 +12,13 @@ use Rattle.kind.specs.Class.{is_digit}
 use Rattle.util.specs.Run.{stands_at}
 use Rattle.token.specs.{View.view_of, declared.View.View}
 use Rattle.token.specs.declared.Token as token
-use Rattle.item.specs.declared.Read.{Read}
 use Rattle.decimal.specs.Decimal.{nrf}
 use Rattle.numeric_list.specs.List.{state_of, taken, refusal, range_by, range_to, item_step, item_at, begins, comma_before, step, step_at}
 use Rattle.numeric_list.specs.{declared.State.State, declared.Token.Token}
-use Rattle.numeric_list.specs.{declared.Token.TheVariants.Numeric, declared.Token.TheVariants.NumericRange, declared.Front.Front}
+use Rattle.numeric_list.specs.{declared.Token.TheVariants.Numeric, declared.Token.TheVariants.NumericRange}
 use Rattle.numeric_list.specs.declared.Answer.TheVariants as answer
 use Rattle.numeric_list.specs.declared.Step.{Step}
+use Rattle.token.specs.declared.Token.{Token as DataToken}
 
 pub taken_is' : (t : Token) (next : ℕ) → record { answer = answer.Token t; state = state_of next false } ≡ taken t next
 unfolding taken
@@ -47,20 +48,20 @@ module _ (b : ℕ) (first d : Bool) (ed : d ≡ is_digit b) where
 
 module _ (s : List ℕ) (st : State) (at : ℕ) (x : Step) where
   -- a number from the place on, by what was read there
-  module _ (r : Read) (er : r ≡ nrf s at) where
-    pub range_well' : (begin : View) (t : token.Token) (next : ℕ) → r ≡ Read.Token t next → x ≡ taken (NumericRange begin (view_of at next)) next → x ≡ range_to s st at begin
+  module _ (r : Result (DataToken × ℕ) ErrorCode) (er : r ≡ nrf s at) where
+    pub range_well' : (begin : View) (t : token.Token) (next : ℕ) → r ≡ Ok (t, next) → x ≡ taken (NumericRange begin (view_of at next)) next → x ≡ range_to s st at begin
     unfolding range_to range_by
     range_well' begin t next e ex = ex ∙ rw (← er, e)
 
-    pub range_ill' : (begin : View) (e : ErrorCode) → r ≡ Read.Refused e → x ≡ refusal s st → x ≡ range_to s st at begin
+    pub range_ill' : (begin : View) (e : ErrorCode) → r ≡ Err e → x ≡ refusal s st → x ≡ range_to s st at begin
     unfolding range_to range_by
     range_ill' begin e q ex = ex ∙ rw (← er, q)
 
-    pub item_ill' : (e : ErrorCode) → r ≡ Read.Refused e → x ≡ refusal s st → x ≡ item_at s st at
+    pub item_ill' : (e : ErrorCode) → r ≡ Err e → x ≡ refusal s st → x ≡ item_at s st at
     unfolding item_at item_step
     item_ill' e q ex = ex ∙ rw (← er, q)
 
-    module _ (t : token.Token) (next : ℕ) (e : r ≡ Read.Token t next) where
+    module _ (t : token.Token) (next : ℕ) (e : r ≡ Ok (t, next)) where
       pub item_last' : length s ≤ next → x ≡ taken (Numeric (view_of at next)) next → x ≡ item_at s st at
       unfolding item_at item_step stands_at
       item_last' h ex = ex ∙ rw (← er, e, le-ltb next (length s) h)
@@ -82,29 +83,29 @@ module _ (s : List ℕ) (st : State) where
   -- where its item begins
   module _ (h : st.place < length s) where
     module _ (e : get_or s st.place 0 ≡ 44) where
-      pub front_first' : st.first ≡ true → step_at s st Front.Refused ≡ step s st
+      pub front_first' : st.first ≡ true → step_at s st None ≡ step s st
       unfolding step step_at comma_before
       front_first' f = rw (lt-leb (length s) st.place h, eq-eqb (get_or s st.place 0) 44 e, f)
 
-      pub front_behind' : st.first ≡ false → step_at s st (Front.Item (st.place + 1)) ≡ step s st
+      pub front_behind' : st.first ≡ false → step_at s st (Some (st.place + 1)) ≡ step s st
       unfolding step step_at comma_before
       front_behind' f = rw (lt-leb (length s) st.place h, eq-eqb (get_or s st.place 0) 44 e, f)
 
     module _ (n : get_or s st.place 0 ≡ 44 → ⊥) (r : Bool) (er : r ≡ begins (get_or s st.place 0) st.first) where
-      pub front_other' : not r ≡ true → step_at s st Front.Refused ≡ step s st
+      pub front_other' : not r ≡ true → step_at s st None ≡ step s st
       unfolding step step_at
       front_other' q = rw (lt-leb (length s) st.place h, ne_eqb (get_or s st.place 0) 44 n, ← er, not-true r q)
 
-      pub front_here' : not r ≡ false → step_at s st (Front.Item st.place) ≡ step s st
+      pub front_here' : not r ≡ false → step_at s st (Some st.place) ≡ step s st
       unfolding step step_at
       front_here' q = rw (lt-leb (length s) st.place h, ne_eqb (get_or s st.place 0) 44 n, ← er, not-false r q)
 
-  module _ (f : Front) (e : step_at s st f ≡ step s st) (x : Step) where
-    pub item' : (at : ℕ) → f ≡ Front.Item at → x ≡ item_at s st at → x ≡ step s st
+  module _ (f : Option ℕ) (e : step_at s st f ≡ step s st) (x : Step) where
+    pub item' : (at : ℕ) → f ≡ Some at → x ≡ item_at s st at → x ≡ step s st
     unfolding step_at
     item' at k ex = ex ∙ rw k at e
 
-    pub refused' : f ≡ Front.Refused → x ≡ refusal s st → x ≡ step s st
+    pub refused' : f ≡ None → x ≡ refusal s st → x ≡ step s st
     unfolding step_at
     refused' k ex = ex ∙ rw k at e
 

@@ -1,21 +1,19 @@
 -- Numeric lists, SCPI-99 8.3.3: what stands at a place of one, and where the next step begins.
-use Rattle.std.specs.Prelude.{ℕ, ◌+◌, List, Bool, true, false, cond, ◌&&◌, ◌||◌, leb, length, get_or}
+use Rattle.std.specs.Prelude.{ℕ, ◌+◌, List, Bool, true, false, cond, ◌&&◌, ◌||◌, leb, length, get_or, Result, Ok, Err, Option, Some, None}
 use Prim.Native.Char.{code}
 use Rattle.error.specs.declared.ErrorCode.TheVariants.{InvalidExpression}
 use Rattle.kind.specs.Class.{is, is_digit}
 use Rattle.util.specs.Run.{stands_at}
 use Rattle.token.specs.View.{view_of}
 use Rattle.token.specs.declared.View.{View}
-use Rattle.item.specs.declared.Read.{Read}
-use Rattle.item.specs.declared.Read.TheVariants as read
 use Rattle.decimal.specs.Decimal.{nrf}
 use Rattle.numeric_list.specs.declared.State.{State}
 use Rattle.numeric_list.specs.declared.Token.{Token}
 use Rattle.numeric_list.specs.declared.Token.TheVariants.{Numeric, NumericRange}
 use Rattle.numeric_list.specs.declared.Answer.TheVariants as answer
-use Rattle.numeric_list.specs.declared.Front.{Front}
-use Rattle.numeric_list.specs.declared.Front.TheVariants as front
 use Rattle.numeric_list.specs.declared.Step.{Step}
+use Rattle.error.specs.declared.ErrorCode.{ErrorCode}
+use Rattle.token.specs.declared.Token.{Token as DataToken}
 
 -- a place, and whether no item has been read yet
 abbrev pub state_of : ℕ → Bool → State
@@ -34,17 +32,17 @@ unfoldable pub refusal : List ℕ → State → Step
 refusal s st = record { answer = answer.Refused InvalidExpression; state = state_of (length s) st.first }
 
 -- the end of a range that begins with a view: a number (IEEE 488.2 7.7.2.2) from the place behind the colon up to its end
-unfoldable pub range_by : List ℕ → State → ℕ → View → Read → Step
-range_by s st at begin (read.Token t end) = taken (NumericRange begin (view_of at end)) end
-range_by s st at begin (read.Refused e) = refusal s st
+unfoldable pub range_by : List ℕ → State → ℕ → View → Result (DataToken × ℕ) ErrorCode → Step
+range_by s st at begin (Ok (t, end)) = taken (NumericRange begin (view_of at end)) end
+range_by s st at begin (Err e) = refusal s st
 
 unfoldable pub range_to : List ℕ → State → ℕ → View → Step
 range_to s st at begin = range_by s st at begin (nrf s at)
 
 -- SCPI-99 8.3.3: a number from a place up to its end, and a range where a colon follows it
-unfoldable pub item_step : List ℕ → State → ℕ → Read → Step
-item_step s st at (read.Token t end) = cond (stands_at (code ":") s end) (range_to s st (end + 1) (view_of at end)) (taken (Numeric (view_of at end)) end)
-item_step s st at (read.Refused e) = refusal s st
+unfoldable pub item_step : List ℕ → State → ℕ → Result (DataToken × ℕ) ErrorCode → Step
+item_step s st at (Ok (t, end)) = cond (stands_at (code ":") s end) (range_to s st (end + 1) (view_of at end)) (taken (Numeric (view_of at end)) end)
+item_step s st at (Err e) = refusal s st
 
 unfoldable pub item_at : List ℕ → State → ℕ → Step
 item_at s st at = item_step s st at (nrf s at)
@@ -68,6 +66,6 @@ step s st =
     (refusal s st)))
 
 -- the step, by where its item begins
-unfoldable pub step_at : List ℕ → State → Front → Step
-step_at s st (front.Item at) = item_at s st at
-step_at s st front.Refused = refusal s st
+unfoldable pub step_at : List ℕ → State → Option ℕ → Step
+step_at s st (Some at) = item_at s st at
+step_at s st None = refusal s st

@@ -5,7 +5,6 @@ ghost use Rattle.std.specs.Prelude.{◌<◌, ◌≡◌, length};
 ghost use Rattle.numeric_list.specs.List.{of_list, taken, refusal, begins, range_to, item_at, step, step_at};
 
 use error::ErrorCode;
-use item::Read;
 use token::View;
 
 #[derive(Clone, Copy)]
@@ -23,6 +22,7 @@ pub struct State {
     pub first: bool,
 }
 
+// What a step says, in the form that the scope names for the Option of a Result of the original.
 #[derive(Clone, Copy)]
 pub enum Answer {
     Token(Token),
@@ -35,13 +35,6 @@ pub enum Answer {
 pub struct Step {
     pub answer: Answer,
     pub state: State,
-}
-
-// Where the next item of a list begins, or that there is none.
-#[derive(Clone, Copy)]
-enum Front {
-    Item(usize),
-    Refused,
 }
 
 // The front of a numeric list.
@@ -66,13 +59,13 @@ pub fn next(s: &[u8], state: State) -> Step
         };
     }
     match item_front(s, state) {
-        Front::Item(from) => item(s, from, state),
-        Front::Refused => refused(s, state),
+        Some(from) => item(s, from, state),
+        None => refused(s, state),
     }
 }
 
 // The next item begins behind a comma at the place, which is not the first of the list, or at the place itself.
-fn item_front(s: &[u8], state: State) -> Front
+fn item_front(s: &[u8], state: State) -> Option<usize>
     requires { state.place < length s.now }
     ensures { step_at s.now state result ≡ step s.now state }
 {
@@ -80,14 +73,14 @@ fn item_front(s: &[u8], state: State) -> Front
     let b = s[at];
     if b == b',' {
         if state.first {
-            return Front::Refused;
+            return None;
         }
-        return Front::Item(at + 1);
+        return Some(at + 1);
     }
     if !begins(b, state.first) {
-        return Front::Refused;
+        return None;
     }
-    Front::Item(at)
+    Some(at)
 }
 
 // Whether an item begins with a byte, where no comma stands before it.
@@ -111,7 +104,7 @@ fn item(s: &[u8], at: usize, state: State) -> Step
     ensures { result ≡ item_at s.now state at }
 {
     match decimal::read_nrf(s, at) {
-        Read::Token { token: _, next } => {
+        Ok((_, next)) => {
             let begin = View {
                 start: at,
                 end: next,
@@ -124,7 +117,7 @@ fn item(s: &[u8], at: usize, state: State) -> Step
             }
             range(s, next + 1, state, begin)
         }
-        Read::Refused(_) => refused(s, state),
+        Err(_) => refused(s, state),
     }
 }
 
@@ -133,7 +126,7 @@ fn range(s: &[u8], at: usize, state: State, begin: View) -> Step
     ensures { result ≡ range_to s.now state at begin }
 {
     match decimal::read_nrf(s, at) {
-        Read::Token { token: _, next } => taken(
+        Ok((_, next)) => taken(
             Token::NumericRange(
                 begin,
                 View {
@@ -143,7 +136,7 @@ fn range(s: &[u8], at: usize, state: State, begin: View) -> Step
             ),
             next,
         ),
-        Read::Refused(_) => refused(s, state),
+        Err(_) => refused(s, state),
     }
 }
 
@@ -168,7 +161,7 @@ fn refused(s: &[u8], state: State) -> Step
         answer: Answer::Refused(ErrorCode::InvalidExpression),
         state: State {
             place: s.len(),
-            first: state.first,
+            ..state
         },
     }
 }

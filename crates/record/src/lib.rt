@@ -13,7 +13,7 @@ pub struct Record {
     pub items: usize,
 }
 
-// The word of a record.
+// The word of a record. This and `unpack` keep the names that programs call them by.
 pub fn pack(unit: Record) -> u64
     ensures { result ≡ word_of unit }
 {

@@ -1,18 +1,14 @@
 -- Texts written to a line, one behind the other.
-use Prim.Native.Nat.{ℕ, ◌+◌, ◌-◌, ◌≤◌, ◌<◌}
+use Prim.Native.Nat.{ℕ, ◌+◌, ◌-◌, ◌≤◌}
 use mathlib.Core.Path.{◌≡◌, refl, sym, ap, ◌∙◌}
-use mathlib.Core.List.{List, ◌++◌, append_assoc, append-nil}
-use native.Mathlib.Nat.{add-suc}
-use native.Mathlib.Numerals.{add-one}
+use mathlib.Core.List.{List, ◌++◌, append_assoc}
 use native.Mathlib.Omega.{arith}
-use lib.ListN.{length, take, drop, get_or, set, length-append}
-use lib.Seq.{take-suc, take-suc-set, take_all, drop-drop, drop-set-lt}
+use lib.ListN.{length, drop, length-append}
+use lib.Seq.{drop-drop}
+use borrow.Rule.Slice.PartMut.{put_mid}
 use borrow.Author.Rules.{rules}
+use Rattle.std.proofs.lemmas.Slice.{take-put_mid, drop-put_mid}
 use Rattle.report.specs.Added.{Added}
-
--- the first bytes of a text stand behind what stood before a place, and the rest is as it was
-unfoldable pub Begun : List ℕ → ℕ → List ℕ → List ℕ → ℕ → Type 0
-Begun l at t o i = (take (at + i) o ≡ take at l ++ take i t) × (drop (at + i) o ≡ drop (at + i) l)
 
 -- what is the same from one place on is so from any behind it
 behind : (o l : List ℕ) (a b : ℕ) → a ≤ b → drop a o ≡ drop a l → drop b o ≡ drop b l
@@ -21,25 +17,13 @@ behind o l a b h e =
     let back : (t : List ℕ) → drop b t ≡ drop (b - a) (drop a t) = λ t. sym (drop-drop (b - a) a t ∙ rw f) in
     back o ∙ ap (λ (t : List ℕ). drop (b - a) t) e ∙ sym (back l)
 
-module _ (l : List ℕ) (at : ℕ) (t : List ℕ) where
-  pub begun' : Begun l at t l 0
-  unfolding Begun
-  begun' = let z : at + 0 ≡ at = omega arith in (rw (z, append-nil), refl)
+-- a text copied over a part of the line
+pub copied' : (l t u : List ℕ) (at k : ℕ) → k ≡ length t → at + length t ≤ length l → u ≡ t → Added l at t (put_mid at k l u) (at + length t)
+unfolding Added
+copied' l t u at k e h f =
+    rw (e, f) (refl, take-put_mid at (length t) l t (at + length t) refl (omega arith), drop-put_mid at (length t) l t (at + length t) (omega arith) (omega arith) refl)
 
-  module _ (o : List ℕ) (i : ℕ) (inv : Begun l at t o i) where
-    pub byte' : (j : ℕ) → at + length t ≤ length l → length o ≡ length l → i < length t → j ≡ i + 1
-        → Begun l at t (set o (at + i) (get_or t i 0)) j
-    unfolding Begun
-    byte' j h m k e = (
-      rw (e, add-one, add-suc, take-suc-set o (at + i) (get_or t i 0) (omega arith), inv.0, append_assoc, take-suc t i 0 k),
-      drop-set-lt (at + j) o (at + i) (get_or t i 0) (omega arith) ∙ behind o l (at + i) (at + j) (omega arith) inv.1,
-    )
-
-    pub added' : i ≤ length t → length t ≤ i → Added l at t o (at + i)
-    unfolding Begun Added
-    added' h k = (omega arith, inv.0 ∙ rw (take_all i t k), inv.1)
-
-pub ruleset laws = (rules, begun', byte', added')
+pub ruleset laws = (rules, copied')
 
 -- one text behind another
 pub join : (l o p : List ℕ) (at a r : ℕ) (t u : List ℕ) → Added l at t o a → Added o a u p r → Added l at (t ++ u) p r

@@ -2,6 +2,7 @@
 pub mod Adds
 pub mod Numbers
 pub mod Signs
+pub mod Fronts
 pub mod Parts
 pub mod Steps
 pub mod Lines

@@ -1,21 +1,19 @@
 -- The lines of the message walk, part by part.
 use Prim.Native.Nat.{ℕ}
-use mathlib.Core.Path.{◌≡◌, sym, ap, ◌∙◌}
+use mathlib.Core.Path.{◌≡◌}
 use mathlib.Core.List.{List, ◌++◌}
 use mathlib.Core.Bool.{Bool, true, false}
 use lib.IntN.{ℤ}
-use lib.ListN.{take, drop}
 use borrow.Author.Rules.{rules}
 use mir.Syntax.{w32}
 use mir.Val.{SFits, to_z, of_z}
 use mir.ValLaws.{to_z-of_z}
-use Rattle.io.specs.Counts.{IsPrefixLen}
 use Rattle.error.specs.{Code.code_of, declared.ErrorCode.ErrorCode}
 use Rattle.kind.specs.Text.{ascii}
 use Rattle.record.specs.declared.Record.{Record}
-use Rattle.report.specs.{Added.Added, Number.decimal, Number.signed, declared.unit_text.Told.Told}
-use Rattle.report.specs.Units.{pair_text, form_text, unit_text, stop_text, total_text, line_text}
-use Rattle.report.proofs.{Adds.join, Adds.join3, Steps.counted', Steps.ends'}
+use Rattle.report.specs.{Added.Added, Number.decimal, Number.signed}
+use Rattle.report.specs.Units.{pair_text, form_text, unit_text, stop_text, total_text}
+use Rattle.report.proofs.Adds.{join, join3}
 
 module _ (l o p q : List ℕ) (at a b r : ℕ) where
   pub pair' : (n m : ℕ) → Added l at (decimal n) o a → Added o a (ascii " ") p b → Added p b (decimal m) q r → Added l at (pair_text n m) q r
@@ -54,15 +52,4 @@ pub total' : (l o p q : List ℕ) (a b r n : ℕ) → Added l 0 (ascii "end ") o
 unfolding total_text
 total' l o p q a b r n = join3 l o p q 0 a b r (ascii "end ") (decimal n) (ascii "\n")
 
--- a line that is written from the front of a buffer on: its bytes, and what stands behind them
-pub whole : (l t o : List ℕ) (r : ℕ) → Added l 0 t o r → IsPrefixLen r o × (take r o ≡ t) × (drop r o ≡ drop r l)
-unfolding Added
-whole l t o r a = ((ends' l o t r a, counted' l o t r a), a.1, a.2)
-
 pub ruleset lines = (rules, unit', stop', total')
-
--- a line, told by its case
-pub told' : (t : List ℕ) (x y : Told) → x ≡ y → t ≡ line_text y → t ≡ line_text x
-told' t x y e h = h ∙ sym (ap line_text e)
-
-pub ruleset told_laws = (rules, told')

@@ -2,11 +2,10 @@
 use Prim.Native.Nat.{ℕ}
 use mathlib.Core.Path.{◌≡◌, subst⁻¹}
 use mathlib.Core.List.{List, ◌++◌, append_assoc}
-use mathlib.Core.Bool.{Bool, true, false, not}
+use mathlib.Core.Bool.{Bool, true, false}
 use borrow.Author.Rules.{rules}
-use borrow.Author.Tests.{not-true, not-false}
 use Rattle.kind.specs.Text.{ascii}
-use Rattle.token.specs.{declared.View.View, declared.Token.Token}
+use Rattle.token.specs.{declared.View.View}
 use Rattle.token.specs.declared.Token.TheVariants.{DecimalNumericSuffixProgramData, NonDecimalNumericProgramData}
 use Rattle.report.specs.{Added.Added, Number.decimal}
 use Rattle.report.specs.Tokens.{view_text, token_text, place_text, flags_text}
@@ -35,20 +34,16 @@ module _ (l o p : List ℕ) (at a r : ℕ) where
   view' q b v = join3 l o p q at a b r (decimal v.start) (ascii "..") (decimal v.end)
 
 module _ (l o : List ℕ) (at r : ℕ) where
-  pub data_flags' : (h c : Bool) → not h ≡ true → Added l at (ascii " d") o r → Added l at (flags_text h c) o r
+  pub data_flags' : (h c : Bool) → h ≡ false → Added l at (ascii " d") o r → Added l at (flags_text h c) o r
   unfolding flags_text
-  data_flags' h c e a = rw (not-true h e) a
+  data_flags' h c e a = rw e a
 
-  pub common_flags' : (h c : Bool) → not h ≡ false → c ≡ true → Added l at (ascii " hc") o r → Added l at (flags_text h c) o r
+  pub common_flags' : (h c : Bool) → h ≡ true → c ≡ true → Added l at (ascii " hc") o r → Added l at (flags_text h c) o r
   unfolding flags_text
-  common_flags' h c e q a = rw (not-false h e, q) a
+  common_flags' h c e q a = rw (e, q) a
 
-  pub header_flags' : (h c : Bool) → not h ≡ false → c ≡ false → Added l at (ascii " h") o r → Added l at (flags_text h c) o r
+  pub header_flags' : (h c : Bool) → h ≡ true → c ≡ false → Added l at (ascii " h") o r → Added l at (flags_text h c) o r
   unfolding flags_text
-  header_flags' h c e q a = rw (not-false h e, q) a
+  header_flags' h c e q a = rw (e, q) a
 
--- the text of a token, told from its case
-pub told' : (l o : List ℕ) (at r : ℕ) (t v : Token) → t ≡ v → Added l at (token_text v) o r → Added l at (token_text t) o r
-told' l o at r t v e a = rw e a
-
-pub ruleset laws = (rules, told', item', place', radix', suffixed', view', data_flags', common_flags', header_flags')
+pub ruleset laws = (rules, item', place', radix', suffixed', view', data_flags', common_flags', header_flags')

@@ -1,10 +1,8 @@
 -- What is said of a step.
-use Prim.Native.Nat.{ℕ, ◌≤◌}
-use mathlib.Core.Path.{◌≡◌, ap}
+use Prim.Native.Nat.{ℕ}
+use mathlib.Core.Path.{◌≡◌}
 use mathlib.Core.List.{List, ◌++◌}
-use native.Mathlib.Omega.{arith}
 use lib.IntN.{ℤ}
-use lib.ListN.{length, take, drop, length-take}
 use borrow.Author.Rules.{rules}
 use mir.Syntax.{w32}
 use mir.Val.{SFits, to_z, of_z}
@@ -12,9 +10,9 @@ use mir.ValLaws.{to_z-of_z}
 use Rattle.error.specs.{Code.code_of, declared.ErrorCode.ErrorCode}
 use Rattle.kind.specs.Text.{ascii}
 use Rattle.token.specs.declared.Token.{Token}
-use Rattle.tokenizer.specs.{declared.State.State, declared.Answer.Answer}
+use Rattle.tokenizer.specs.{declared.State.State}
 use Rattle.report.specs.{Added.Added, Number.signed}
-use Rattle.report.specs.Tokens.{token_text, place_text, flags_text, taken_text, end_text, refused_text, answer_text}
+use Rattle.report.specs.Tokens.{token_text, place_text, flags_text, taken_text, end_text, refused_text}
 use Rattle.report.proofs.Adds.{join, join3}
 
 module _ (l o p q : List ℕ) (a b r : ℕ) where
@@ -36,22 +34,3 @@ module _ (l o p q : List ℕ) (a b r : ℕ) where
       rw k at (join3 l o p q 0 a b r (ascii "refused ") (signed n) (ascii "\n") x (rw (to_z-of_z w32 n f) at y) z)
 
 pub ruleset laws = (rules, taken', end', refused')
-
--- a line that begins at its front
-module _ (l o t : List ℕ) (r : ℕ) (a : Added l 0 t o r) where
-  pub counted' : r ≡ length (take r o)
-  unfolding Added
-  counted' = let e : length (take r o) ≡ length t = ap length a.1 in omega arith
-
-  pub ends' : r ≤ length o
-  ends' = omega (arith, counted', length-take r o)
-
-pub whole' : (l o : List ℕ) (r : ℕ) (s : State) (x v : Answer) → x ≡ v → Added l 0 (answer_text v s) o r → take r o ≡ answer_text x s
-unfolding Added
-whole' l o r s x v e a = rw e a.1
-
-pub rest' : (l o t : List ℕ) (r : ℕ) → Added l 0 t o r → drop r o ≡ drop r l
-unfolding Added
-rest' l o t r a = a.2
-
-pub ruleset wholes = (rules, counted', ends', whole', rest')

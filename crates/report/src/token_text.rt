@@ -1,10 +1,10 @@
 // The answers of the token step as text.
 ghost use Rattle.std.specs.Prelude.{◌≡◌, ◌++◌, ◌+◌, ◌≤◌, length, take, drop};
 ghost use Rattle.io.specs.Counts.{IsPrefixLen};
-ghost use Rattle.report.specs.Added.{Added};
+ghost use Rattle.report.specs.Added.{Adds};
 ghost use Rattle.report.specs.Tokens.{view_text, token_text, place_text, flags_text, taken_text, end_text, refused_text, part_text};
 
-use crate::write::{Line, add, add_number, add_signed};
+use crate::write::Line;
 use error::ErrorCode;
 use token::{Token, View};
 use tokenizer::{Answer, State, Step};
@@ -14,119 +14,139 @@ use tokenizer::{Answer, State, Step};
 pub fn token_part(step: Step, line: &mut [u8; 128]) -> usize
     ensures { (IsPrefixLen result line.new) × (take result line.new ≡ part_text step) × (drop result line.new ≡ drop result line.old) }
 {
-    let answer = step.answer;
-    let state = step.state;
-    match answer {
-        Answer::Token(token) => taken_part(line, token, state),
-        Answer::End => end_part(line, state.place),
-        Answer::Refused(e) => refused_part(line, e),
-    }
+    let mut part = Line {
+        bytes: line,
+        len: 0,
+    };
+    part.add_step(step);
+    part.len
 }
 
-// A token and the state behind it.
-fn taken_part(line: &mut Line, token: Token, state: State) -> usize
-    ensures { Added line.old 0 (taken_text token state) line.new result }
-{
-    let shown = add_token(line, 0, token);
-    let place = add_place(line, shown, state.place);
-    let flags = add_flags(line, place, state.in_header, state.in_common);
-    add(line, flags, b" | ")
-}
-
-fn end_part(line: &mut Line, place: usize) -> usize
-    ensures { Added line.old 0 (end_text place) line.new result }
-{
-    let word = add(line, 0, b"end");
-    let shown = add_place(line, word, place);
-    add(line, shown, b"\n")
-}
-
-fn refused_part(line: &mut Line, e: ErrorCode) -> usize
-    ensures { Added line.old 0 (refused_text e) line.new result }
-{
-    let word = add(line, 0, b"refused ");
-    let shown = add_signed(line, word, e.get_code());
-    add(line, shown, b"\n")
-}
-
-// The word of a token's kind, with its views or its value.
-fn add_token(line: &mut Line, at: usize, token: Token) -> usize
-    requires { at + 94 ≤ 128 }
-    ensures { (Added line.old at (token_text token) line.new result) × (result ≤ at + 94) }
-{
-    match token {
-        Token::HeaderMnemonicSeparator => add(line, at, b"colon"),
-        Token::HeaderQuerySuffix => add(line, at, b"query"),
-        Token::ProgramMessageUnitSeparator => add(line, at, b"unitsep"),
-        Token::ProgramHeaderSeparator => add(line, at, b"headersep"),
-        Token::ProgramDataSeparator => add(line, at, b"comma"),
-        Token::ProgramMnemonic(view) => add_item(line, at, b"mnemonic ", view),
-        Token::CharacterProgramData(view) => add_item(line, at, b"chars ", view),
-        Token::DecimalNumericProgramData(view) => add_item(line, at, b"number ", view),
-        Token::DecimalNumericSuffixProgramData(number, suffix) => {
-            add_suffixed(line, at, number, suffix)
+impl Line<'_> {
+    // Adds the text of a step.
+    fn add_step(&mut self, step: Step)
+        requires { self.old.len ≡ 0 }
+        ensures { Adds self.old (part_text step) self.new }
+    {
+        let answer = step.answer;
+        let state = step.state;
+        match answer {
+            Answer::Token(token) => self.add_taken(token, state),
+            Answer::End => self.add_end(state.place),
+            Answer::Refused(e) => self.add_refused(e),
         }
-        Token::NonDecimalNumericProgramData(value) => add_radix(line, at, value),
-        Token::StringProgramData(view) => add_item(line, at, b"string ", view),
-        Token::ArbitraryBlockData(view) => add_item(line, at, b"block ", view),
-        Token::ExpressionProgramData(view) => add_item(line, at, b"expr ", view),
     }
-}
 
-// A word and a view.
-fn add_item(line: &mut Line, at: usize, word: &[u8], view: View) -> usize
-    requires { at + length word.now + 42 ≤ 128 }
-    ensures { (Added line.old at (word.now ++ view_text view) line.new result) × (result ≤ at + length word.now + 42) }
-{
-    let shown = add(line, at, word);
-    add_view(line, shown, view)
-}
-
-fn add_suffixed(line: &mut Line, at: usize, number: View, suffix: View) -> usize
-    requires { at + 94 ≤ 128 }
-    ensures { (Added line.old at (token_text (Token.DecimalNumericSuffixProgramData number suffix)) line.new result) × (result ≤ at + 94) }
-{
-    let shown = add_item(line, at, b"suffixed ", number);
-    add_item(line, shown, b" ", suffix)
-}
-
-fn add_radix(line: &mut Line, at: usize, value: u64) -> usize
-    requires { at + 26 ≤ 128 }
-    ensures { (Added line.old at (token_text (Token.NonDecimalNumericProgramData value)) line.new result) × (result ≤ at + 26) }
-{
-    let shown = add(line, at, b"radix ");
-    add_number(line, shown, value)
-}
-
-// `start..end`
-fn add_view(line: &mut Line, at: usize, view: View) -> usize
-    requires { at + 42 ≤ 128 }
-    ensures { (Added line.old at (view_text view) line.new result) × (result ≤ at + 42) }
-{
-    let start = add_number(line, at, view.start as u64);
-    let dots = add(line, start, b"..");
-    add_number(line, dots, view.end as u64)
-}
-
-// ` @place`
-fn add_place(line: &mut Line, at: usize, place: usize) -> usize
-    requires { at + 22 ≤ 128 }
-    ensures { (Added line.old at (place_text place) line.new result) × (result ≤ at + 22) }
-{
-    let shown = add(line, at, b" @");
-    add_number(line, shown, place as u64)
-}
-
-// Where the state is: out of a header, in that of a common command, or in another.
-fn add_flags(line: &mut Line, at: usize, in_header: bool, in_common: bool) -> usize
-    requires { at + 3 ≤ 128 }
-    ensures { (Added line.old at (flags_text in_header in_common) line.new result) × (result ≤ at + 3) }
-{
-    if !in_header {
-        return add(line, at, b" d");
+    // Adds a token and the state behind it.
+    fn add_taken(&mut self, token: Token, state: State)
+        requires { self.old.len ≡ 0 }
+        ensures { Adds self.old (taken_text token state) self.new }
+    {
+        self.add_token(token);
+        self.add_place(state.place);
+        self.add_flags(state.in_header, state.in_common);
+        self.add(b" | ");
     }
-    if in_common {
-        return add(line, at, b" hc");
+
+    // Adds the end of a text.
+    fn add_end(&mut self, place: usize)
+        requires { self.old.len ≡ 0 }
+        ensures { Adds self.old (end_text place) self.new }
+    {
+        self.add(b"end");
+        self.add_place(place);
+        self.add(b"\n");
     }
-    add(line, at, b" h")
+
+    // Adds a refusal.
+    fn add_refused(&mut self, e: ErrorCode)
+        requires { self.old.len ≡ 0 }
+        ensures { Adds self.old (refused_text e) self.new }
+    {
+        self.add(b"refused ");
+        self.add_signed(e.get_code());
+        self.add(b"\n");
+    }
+
+    // Adds the word of a token's kind, with its views or its value.
+    fn add_token(&mut self, token: Token)
+        requires { self.old.len + 94 ≤ 128 }
+        ensures { Adds self.old (token_text token) self.new × (self.new.len ≤ self.old.len + 94) }
+    {
+        match token {
+            Token::HeaderMnemonicSeparator => self.add(b"colon"),
+            Token::HeaderQuerySuffix => self.add(b"query"),
+            Token::ProgramMessageUnitSeparator => self.add(b"unitsep"),
+            Token::ProgramHeaderSeparator => self.add(b"headersep"),
+            Token::ProgramDataSeparator => self.add(b"comma"),
+            Token::ProgramMnemonic(view) => self.add_item(b"mnemonic ", view),
+            Token::CharacterProgramData(view) => self.add_item(b"chars ", view),
+            Token::DecimalNumericProgramData(view) => self.add_item(b"number ", view),
+            Token::DecimalNumericSuffixProgramData(number, suffix) => {
+                self.add_suffixed(number, suffix)
+            }
+            Token::NonDecimalNumericProgramData(value) => self.add_radix(value),
+            Token::StringProgramData(view) => self.add_item(b"string ", view),
+            Token::ArbitraryBlockData(view) => self.add_item(b"block ", view),
+            Token::ExpressionProgramData(view) => self.add_item(b"expr ", view),
+        }
+    }
+
+    // Adds a word and a view.
+    fn add_item(&mut self, word: &[u8], view: View)
+        requires { self.old.len + length word.now + 42 ≤ 128 }
+        ensures { Adds self.old (word.now ++ view_text view) self.new × (self.new.len ≤ self.old.len + length word.now + 42) }
+    {
+        self.add(word);
+        self.add_view(view);
+    }
+
+    // Adds a number with a suffix.
+    fn add_suffixed(&mut self, number: View, suffix: View)
+        requires { self.old.len + 94 ≤ 128 }
+        ensures { Adds self.old (token_text (Token.DecimalNumericSuffixProgramData number suffix)) self.new × (self.new.len ≤ self.old.len + 94) }
+    {
+        self.add_item(b"suffixed ", number);
+        self.add_item(b" ", suffix);
+    }
+
+    // Adds a number in a radix by its value.
+    fn add_radix(&mut self, value: u64)
+        requires { self.old.len + 26 ≤ 128 }
+        ensures { Adds self.old (token_text (Token.NonDecimalNumericProgramData value)) self.new × (self.new.len ≤ self.old.len + 26) }
+    {
+        self.add(b"radix ");
+        self.add_number(value);
+    }
+
+    // Adds `start..end`.
+    fn add_view(&mut self, view: View)
+        requires { self.old.len + 42 ≤ 128 }
+        ensures { Adds self.old (view_text view) self.new × (self.new.len ≤ self.old.len + 42) }
+    {
+        self.add_number(view.start as u64);
+        self.add(b"..");
+        self.add_number(view.end as u64);
+    }
+
+    // Adds ` @place`.
+    fn add_place(&mut self, place: usize)
+        requires { self.old.len + 22 ≤ 128 }
+        ensures { Adds self.old (place_text place) self.new × (self.new.len ≤ self.old.len + 22) }
+    {
+        self.add(b" @");
+        self.add_number(place as u64);
+    }
+
+    // Adds where the state is: out of a header, in that of a common command, or in another.
+    fn add_flags(&mut self, in_header: bool, in_common: bool)
+        requires { self.old.len + 3 ≤ 128 }
+        ensures { Adds self.old (flags_text in_header in_common) self.new × (self.new.len ≤ self.old.len + 3) }
+    {
+        match (in_header, in_common) {
+            (false, _) => self.add(b" d"),
+            (true, true) => self.add(b" hc"),
+            (true, false) => self.add(b" h"),
+        }
+    }
 }

@@ -1,10 +1,10 @@
 // The answers of the message walk as text.
 ghost use Rattle.std.specs.Prelude.{◌≡◌, ◌+◌, ◌≤◌, take, drop};
 ghost use Rattle.io.specs.Counts.{IsPrefixLen};
-ghost use Rattle.report.specs.Added.{Added};
+ghost use Rattle.report.specs.Added.{Adds};
 ghost use Rattle.report.specs.Units.{pair_text, form_text, unit_text, stop_text, total_text, line_text};
 
-use crate::write::{Line, add, add_number, add_signed};
+use crate::write::Line;
 use error::ErrorCode;
 use record::Record;
 
@@ -20,55 +20,78 @@ pub enum Told {
 pub fn walk_line(told: Told, line: &mut [u8; 128]) -> usize
     ensures { (IsPrefixLen result line.new) × (take result line.new ≡ line_text told) × (drop result line.new ≡ drop result line.old) }
 {
-    match told {
-        Told::Unit { number, unit } => unit_line(number, unit, line),
-        Told::Refused { number, error } => refused_line(number, error, line),
-        Told::End(units) => end_line(units, line),
+    let mut text = Line {
+        bytes: line,
+        len: 0,
+    };
+    text.add_told(told);
+    text.len
+}
+
+impl Line<'_> {
+    // Adds the text of a line.
+    fn add_told(&mut self, told: Told)
+        requires { self.old.len ≡ 0 }
+        ensures { Adds self.old (line_text told) self.new }
+    {
+        match told {
+            Told::Unit { number, unit } => self.add_unit(number, unit),
+            Told::Refused { number, error } => self.add_stop(number, error),
+            Told::End(units) => self.add_total(units),
+        }
     }
-}
 
-fn unit_line(number: usize, unit: Record, line: &mut [u8; 128]) -> usize
-    ensures { (IsPrefixLen result line.new) × (take result line.new ≡ unit_text number unit) × (drop result line.new ≡ drop result line.old) }
-{
-    let command = add_pair(line, 0, number as u64, unit.command as u64);
-    let form = add_form(line, command, unit.query);
-    let branch = add_pair(line, form, unit.items as u64, unit.branch as u64);
-    add(line, branch, b"\n")
-}
-
-fn refused_line(number: usize, e: ErrorCode, line: &mut [u8; 128]) -> usize
-    ensures { (IsPrefixLen result line.new) × (take result line.new ≡ stop_text number e) × (drop result line.new ≡ drop result line.old) }
-{
-    let shown = add_number(line, 0, number as u64);
-    let word = add(line, shown, b" refused ");
-    let code = add_signed(line, word, e.get_code());
-    add(line, code, b"\n")
-}
-
-fn end_line(units: usize, line: &mut [u8; 128]) -> usize
-    ensures { (IsPrefixLen result line.new) × (take result line.new ≡ total_text units) × (drop result line.new ≡ drop result line.old) }
-{
-    let word = add(line, 0, b"end ");
-    let shown = add_number(line, word, units as u64);
-    add(line, shown, b"\n")
-}
-
-// Two numbers with a blank between them.
-fn add_pair(line: &mut Line, at: usize, first: u64, second: u64) -> usize
-    requires { at + 41 ≤ 128 }
-    ensures { (Added line.old at (pair_text first second) line.new result) × (result ≤ at + 41) }
-{
-    let shown = add_number(line, at, first);
-    let blank = add(line, shown, b" ");
-    add_number(line, blank, second)
-}
-
-fn add_form(line: &mut Line, at: usize, query: bool) -> usize
-    requires { at + 7 ≤ 128 }
-    ensures { (Added line.old at (form_text query) line.new result) × (result ≤ at + 7) }
-{
-    if query {
-        return add(line, at, b" query ");
+    // Adds a unit that was read.
+    fn add_unit(&mut self, number: usize, unit: Record)
+        requires { self.old.len ≡ 0 }
+        ensures { Adds self.old (unit_text number unit) self.new }
+    {
+        self.add_pair(number as u64, u64::from(unit.command));
+        self.add_form(unit.query);
+        self.add_pair(unit.items as u64, unit.branch as u64);
+        self.add(b"\n");
     }
-    add(line, at, b" event ")
+
+    // Adds the unit that is refused.
+    fn add_stop(&mut self, number: usize, e: ErrorCode)
+        requires { self.old.len ≡ 0 }
+        ensures { Adds self.old (stop_text number e) self.new }
+    {
+        self.add_number(number as u64);
+        self.add(b" refused ");
+        self.add_signed(e.get_code());
+        self.add(b"\n");
+    }
+
+    // Adds the end of a message.
+    fn add_total(&mut self, units: usize)
+        requires { self.old.len ≡ 0 }
+        ensures { Adds self.old (total_text units) self.new }
+    {
+        self.add(b"end ");
+        self.add_number(units as u64);
+        self.add(b"\n");
+    }
+
+    // Adds two numbers with a blank between them.
+    fn add_pair(&mut self, first: u64, second: u64)
+        requires { self.old.len + 41 ≤ 128 }
+        ensures { Adds self.old (pair_text first second) self.new × (self.new.len ≤ self.old.len + 41) }
+    {
+        self.add_number(first);
+        self.add(b" ");
+        self.add_number(second);
+    }
+
+    // Adds the form of a unit.
+    fn add_form(&mut self, query: bool)
+        requires { self.old.len + 7 ≤ 128 }
+        ensures { Adds self.old (form_text query) self.new × (self.new.len ≤ self.old.len + 7) }
+    {
+        if query {
+            self.add(b" query ");
+        } else {
+            self.add(b" event ");
+        }
+    }
 }

@@ -1,50 +1,45 @@
 // Texts written to a line, each behind the one before it.
 ghost use Rattle.std.specs.Prelude.{◌≡◌, ◌+◌, ◌≤◌, length};
-ghost use Rattle.report.specs.Added.{Added};
+ghost use Rattle.report.specs.Added.{Adds};
 ghost use Rattle.report.specs.Number.{decimal, signed};
 
-// The line that a part is written to.
-pub(crate) type Line = [u8; 128];
-
-// Writes a text to a line at a place, and answers the place behind it.
-pub(crate) fn add(line: &mut Line, at: usize, text: &[u8]) -> usize
-    requires { at + length text.now ≤ 128 }
-    ensures { (Added line.old at text.now line.new result) × (result ≡ at + length text.now) }
-{
-    copy(line, at, text)
+// A line that is written to a buffer from its front on, and how many bytes it has.
+#[derive(Drop)]
+pub(crate) struct Line<'a> {
+    pub(crate) bytes: &'a mut [u8; 128],
+    pub(crate) len: usize,
 }
 
-// Copies a text, byte by byte.
-fn copy(line: &mut [u8], at: usize, text: &[u8]) -> usize
-    requires { at + length text.now ≤ length line.old }
-    ensures { (Added line.old at text.now line.new result) × (result ≡ at + length text.now) }
-{
-    let mut i = 0;
-    while i < text.len() {
-        line[at + i] = text[i];
-        i += 1;
+impl Line<'_> {
+    // Adds a text.
+    pub(crate) fn add(&mut self, text: &[u8])
+        requires { self.old.len + length text.now ≤ 128 }
+        ensures { Adds self.old text.now self.new × (self.new.len ≡ self.old.len + length text.now) }
+    {
+        let end = self.len + text.len();
+        let bytes = &mut *self.bytes;
+        bytes[self.len..end].copy_from_slice(text);
+        self.len = end;
     }
-    at + i
-}
 
-// A number in decimal, of 20 digits at most.
-pub(crate) fn add_number(line: &mut Line, at: usize, n: u64) -> usize
-    requires { at + 20 ≤ 128 }
-    ensures { (Added line.old at (decimal n) line.new result) × (result ≤ at + 20) }
-{
-    let mut digits = [0u8; 20];
-    let count = io::decimal(n, &mut digits);
-    add(line, at, &digits[..count])
-}
-
-// A number in decimal, with a minus in front where it is below zero.
-pub(crate) fn add_signed(line: &mut Line, at: usize, n: i32) -> usize
-    requires { at + 21 ≤ 128 }
-    ensures { (Added line.old at (signed n) line.new result) × (result ≤ at + 21) }
-{
-    if n < 0 {
-        let shown = add(line, at, b"-");
-        return add_number(line, shown, integer::magnitude(n as i64));
+    // Adds a number in decimal, of 20 digits at most.
+    pub(crate) fn add_number(&mut self, n: u64)
+        requires { self.old.len + 20 ≤ 128 }
+        ensures { Adds self.old (decimal n) self.new × (self.new.len ≤ self.old.len + 20) }
+    {
+        let mut digits = [0u8; 20];
+        let count = io::decimal(n, &mut digits);
+        self.add(&digits[..count]);
     }
-    add_number(line, at, integer::magnitude(n as i64))
+
+    // Adds a number in decimal, with a minus in front where it is below zero.
+    pub(crate) fn add_signed(&mut self, n: i32)
+        requires { self.old.len + 21 ≤ 128 }
+        ensures { Adds self.old (signed n) self.new × (self.new.len ≤ self.old.len + 21) }
+    {
+        if n < 0 {
+            self.add(b"-");
+        }
+        self.add_number(u64::from(n.unsigned_abs()));
+    }
 }

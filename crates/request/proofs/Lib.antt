@@ -1,5 +1,6 @@
 -- Laws that belong to no one function.
 pub mod Fields
+pub mod Parts
 pub mod Pairs
 pub mod Texts
 pub mod Claims

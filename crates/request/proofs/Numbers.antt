@@ -1,32 +1,35 @@
 -- A number in decimal, as far as its digits go and as a whole text.
+use Rattle.std.specs.Prelude.{Option, Some, None, Result, Ok, Err}
+use Rattle.std.specs.Result.{result_ok}
+use Rattle.std.proofs.lemmas.Option.{none-some, same_Some}
 use Prim.Native.Nat.{ℕ, ◌+◌, ◌-◌, ◌^◌, ◌≤◌, ◌<◌}
 use mathlib.Core.Path.{◌≡◌, refl, sym, ap, ◌∙◌}
-use mathlib.Core.Logic.{⊎_elim}
+use mathlib.Core.Logic.{◌⊎◌, ⊎_elim}
 use mathlib.Core.List.{List, [], ◌∷◌}
 use mathlib.Core.Bool.{Bool, true, false, cond, and-false}
 use native.Mathlib.Nat.{le_refl}
 use native.Mathlib.Omega.{arith}
 use lib.Dec.{eqb, ltb, leb}
 use lib.ListN.{length, take, drop, length-take}
-use lib.Seq.{slice, take-length, take-add, drop_at, length-take-le}
+use lib.Seq.{take-length}
 use borrow.Author.Rules.{rules}
 use borrow.Author.Tests.{le-leb, lt-leb, lt-ltb, le-ltb, eq-eqb, ne_eqb}
 use Rattle.kind.specs.Class.{is_digit}
 use Rattle.kind.proofs.Tests.{less_or_not, clash, by_test}
 use Rattle.util.specs.Run.{run, every}
 use Rattle.util.proofs.Every.{every_run, run_every}
-use Rattle.integer.specs.{Digit.is_digit_of, Digit.value_of, declared.Radix.TheVariants.Decimal, declared.Unsigned.Unsigned}
+use Rattle.integer.specs.{Digit.is_digit_of, Digit.value_of, declared.Radix.TheVariants.Decimal}
 use Rattle.integer.specs.Number.{digits, found_at, unsigned_of, unsigned_at}
 use Rattle.integer.proofs.{Digits.decimal, Values.taken}
 use Rattle.request.specs.Number.{is_number, number_of, number_in}
-use Rattle.request.specs.declared.table_text.Number.{Number}
-use Rattle.request.specs.declared.table_text.Number.TheVariants.{Value, Bad}
+use Rattle.integer.specs.declared.NumberError.{NumberError}
+use Rattle.request.proofs.Parts.{part, inside, outside}
 
 -- a number whose digits go to the end of a text of n characters
-abbrev whole : ℕ → Unsigned → Number
-whole n (Unsigned.Value v e) = cond (leb n e) (Value v) Bad
-whole n Unsigned.NoDigit = Bad
-whole n Unsigned.TooLarge = Bad
+abbrev whole : ℕ → Result (ℕ × ℕ) NumberError → Option ℕ
+whole n (Ok (v, e)) = cond (leb n e) (Some v) None
+whole n (Err NumberError.NoDigit) = None
+whole n (Err NumberError.TooLarge) = None
 
 same_run : (t : List ℕ) → run (is_digit_of 10) t ≡ run is_digit t
 unfolding run
@@ -34,23 +37,23 @@ same_run [] = refl
 same_run (b ∷ t) = rw (decimal b, same_run t)
 
 module _ (v e n : ℕ) where
-  ends : 0 < e → n ≤ e → (c : Bool) → whole n (cond c (found_at v 0 e) Unsigned.TooLarge) ≡ cond c (Value v) Bad
+  ends : 0 < e → n ≤ e → (c : Bool) → whole n (cond c (found_at v 0 e) (Err NumberError.TooLarge)) ≡ cond c (Some v) None
   unfolding found_at
   ends h k true = rw (ne_eqb e 0 (λ z. omega arith), le-leb n e k)
   ends h k false = refl
 
-  none : e ≡ 0 → (c : Bool) → whole n (cond c (found_at v 0 e) Unsigned.TooLarge) ≡ Bad
+  none : e ≡ 0 → (c : Bool) → whole n (cond c (found_at v 0 e) (Err NumberError.TooLarge)) ≡ None
   unfolding found_at
   none h true = rw (eq-eqb e 0 h)
   none h false = refl
 
-  goes_on : e < n → (c : Bool) → whole n (cond c (found_at v 0 e) Unsigned.TooLarge) ≡ Bad
+  goes_on : e < n → (c : Bool) → whole n (cond c (found_at v 0 e) (Err NumberError.TooLarge)) ≡ None
   unfolding found_at
-  goes_on h true = by_test (λ (u : Unsigned). whole n u ≡ Bad) (eqb e 0) (λ _. refl) (λ _. rw (lt-leb n e h))
+  goes_on h true = by_test (λ (u : Result (ℕ × ℕ) NumberError). whole n u ≡ None) (eqb e 0) (λ _. refl) (λ _. rw (lt-leb n e h))
   goes_on h false = refl
 
 module _ (t : List ℕ) where
-  by_run : (n : ℕ) → n ≡ run is_digit t → unsigned_at Decimal t 0 ≡ cond (ltb (value_of 10 (take n t)) (2 ^ 64)) (found_at (value_of 10 (take n t)) 0 n) Unsigned.TooLarge
+  by_run : (n : ℕ) → n ≡ run is_digit t → unsigned_at Decimal t 0 ≡ cond (ltb (value_of 10 (take n t)) (2 ^ 64)) (found_at (value_of 10 (take n t)) 0 n) (Err NumberError.TooLarge)
   unfolding unsigned_at unsigned_of digits
   by_run n e =
       let z : 0 + length (take n t) ≡ n = omega (arith, taken is_digit t, ap (λ (k : ℕ). length (take k t)) e) in
@@ -71,42 +74,40 @@ module _ (t : List ℕ) where
       (less_or_not (run is_digit t) (length t)))
 
   -- As the code meets them: the number that begins the text.
-  module _ (r : Unsigned) (e : r ≡ unsigned_at Decimal t 0) where
-    by_case : (u : Unsigned) → r ≡ u → whole (length t) u ≡ number_of t
+  module _ (r : Result (ℕ × ℕ) NumberError) (e : r ≡ unsigned_at Decimal t 0) where
+    by_case : (u : Result (ℕ × ℕ) NumberError) → r ≡ u → whole (length t) u ≡ number_of t
     by_case u q = rw (← q, e) (by_digits (every is_digit t) refl)
 
-    pub no_digit' : r ≡ Unsigned.NoDigit → Bad ≡ number_of t
-    no_digit' q = by_case Unsigned.NoDigit q
+    pub no_number' : (x : Option ℕ) → x ≡ None → result_ok r ≡ None → x ≡ number_of t
+    no_number' x n h = n ∙ go r refl h
+      where
+        go : (u : Result (ℕ × ℕ) NumberError) → r ≡ u → result_ok u ≡ None → None ≡ number_of t
+        go (Ok u) q h = absurd (none-some u (sym h))
+        go (Err NumberError.NoDigit) q h = by_case (Err NumberError.NoDigit) q
+        go (Err NumberError.TooLarge) q h = by_case (Err NumberError.TooLarge) q
 
-    pub too_large' : r ≡ Unsigned.TooLarge → Bad ≡ number_of t
-    too_large' q = by_case Unsigned.TooLarge q
+    module _ (v end : ℕ) (q : result_ok r ≡ Some (v, end)) where
+      read : r ≡ Ok (v, end)
+      read = go r refl
+        where
+          go : (u : Result (ℕ × ℕ) NumberError) → r ≡ u → r ≡ Ok (v, end)
+          go (Ok u) p = let h : Some u ≡ Some (v, end) = sym (ap result_ok p) ∙ q in p ∙ ap (λ (w : ℕ × ℕ). Ok w) (same_Some u (v, end) h)
+          go (Err x) p = absurd (none-some (v, end) (sym (ap result_ok p) ∙ q))
 
-    module _ (v end : ℕ) (q : r ≡ Unsigned.Value v end) where
-      pub more_behind' : end < length t → Bad ≡ number_of t
-      more_behind' h = rw (lt-leb (length t) end h) at (by_case (Unsigned.Value v end) q)
+      pub more_behind' : end < length t → None ≡ number_of t
+      more_behind' h = rw (lt-leb (length t) end h) at (by_case (Ok (v, end)) read)
 
-      pub whole' : length t ≤ end → Value v ≡ number_of t
-      whole' h = rw (le-leb (length t) end h) at (by_case (Unsigned.Value v end) q)
+      pub whole' : length t ≤ end → Some v ≡ number_of t
+      whole' h = rw (le-leb (length t) end h) at (by_case (Ok (v, end)) read)
 
--- A part of a line.
+-- a part of a line
 module _ (s : List ℕ) (from to : ℕ) where
-  pub part : from ≤ to → to ≤ length s → take (to - from) (drop from s) ≡ slice from to s
-  part h l =
-      let e : from + (to - from) ≡ to = omega arith in
-      let d = drop_at (take from s) (take (to - from) (drop from s)) from (length-take-le from s (omega arith)) in
-      sym ((rw (← take-add, e) at d))
-
-  pub reversed' : to < from → Bad ≡ number_in s from to
+  pub no_part' : (o : Option ℕ) → o ≡ None → (to < from) ⊎ (length s < to) → o ≡ number_in s from to
   unfolding number_in
-  reversed' h = rw (lt-leb from to h)
+  no_part' o n h = rw (outside s from to h) n
 
-  module _ (h : from ≤ to) where
-    pub behind' : length s < to → Bad ≡ number_in s from to
-    unfolding number_in
-    behind' k = rw (le-leb from to h, lt-leb to (length s) k)
+  pub in_part' : from ≤ to → to ≤ length s → (t : List ℕ) → t ≡ take (to - from) (drop from s) → (o : Option ℕ) → o ≡ number_of t → o ≡ number_in s from to
+  unfolding number_in
+  in_part' h l t e o q = rw (inside s from to h l, ← part s from to h l, ← e) q
 
-    pub in_part' : to ≤ length s → (r : Number) → r ≡ number_of (take (to - from) (drop from s)) → r ≡ number_in s from to
-    unfolding number_in
-    in_part' l r e = rw (le-leb from to h, le-leb to (length s) l, ← part h l) e
-
-pub ruleset laws = (rules, no_digit', too_large', more_behind', whole', reversed', behind', in_part')
+pub ruleset laws = (rules, no_number', more_behind', whole', no_part', in_part')

@@ -1,6 +1,5 @@
 -- A text in hex: two digits a byte.
-use Rattle.std.specs.Prelude.{ℕ, ◌+◌, ◌*◌, List, [], ◌∷◌, Bool, false, true, cond, ◌&&◌}
-use Rattle.std.proofs.Math.Option.{Option, none, some}
+use Rattle.std.specs.Prelude.{ℕ, ◌+◌, ◌*◌, List, [], ◌∷◌, Bool, false, true, cond, ◌&&◌, Option, Some, None}
 use Rattle.kind.specs.Class.{is}
 use Rattle.integer.specs.Digit.{digit_of, is_digit_of}
 
@@ -28,4 +27,4 @@ is_dash (b ∷ c ∷ s) = false
 
 -- what a word says: `-` the empty text, pairs of hex digits their bytes, any other nothing
 unfoldable pub text_of : List ℕ → Option (List ℕ)
-text_of s = cond (is_dash s) (some []) (cond (are_pairs s) (some (bytes_of s)) none)
+text_of s = cond (is_dash s) (Some []) (cond (are_pairs s) (Some (bytes_of s)) None)

@@ -1,12 +1,10 @@
 -- The words of a table: numbers in decimal, joined by commas.
-use Rattle.std.specs.Prelude.{ℕ, List, [], ◌∷◌, ◌++◌, Bool, true, cond, ◌&&◌, leb, length, take, drop}
+use Rattle.std.specs.Prelude.{ℕ, List, [], ◌∷◌, ◌++◌, Bool, true, cond, ◌&&◌, leb, length, take, drop, Option, Some, None}
 use Rattle.std.proofs.Math.Seq.{slice}
 use Rattle.kind.specs.Class.{is}
 use Rattle.integer.specs.Digit.{value_of}
 use Rattle.request.specs.Hex.{is_dash}
 use Rattle.request.specs.Number.{is_number}
-use Rattle.request.specs.declared.table_text.Words.{Words}
-use Rattle.request.specs.declared.table_text.Words.TheVariants.{Count, Bad}
 
 -- a character in front of the first of some pieces
 unfoldable pub on_first : ℕ → List (List ℕ) → List (List ℕ)
@@ -34,7 +32,7 @@ numbers_of (p ∷ ps) = cond (is_number p) (value_of 10 p ∷ numbers_of ps) []
 
 -- what is answered, and what the buffer then holds
 pub record Outcome : Type 0 where
-  pub says : Words
+  pub says : Option ℕ
   pub slots : List ℕ
 
 -- words take the place of as many at the front of a buffer, as far as it goes
@@ -43,8 +41,8 @@ over out ws = take (length out) ws ++ drop (length ws) out
 
 -- the answer is the count of the pieces, where each is a number; the numbers in front of the first that is none are written
 unfoldable pub written : List ℕ → List (List ℕ) → Outcome
-written out ps = record { says = cond (are_numbers ps) (Count (length ps)) Bad; slots = over out (numbers_of ps) }
+written out ps = record { says = cond (are_numbers ps) (Some (length ps)) None; slots = over out (numbers_of ps) }
 
 -- what the line says from one place up to another, written to the front of a buffer; outside the line there is nothing
 unfoldable pub words_in : List ℕ → ℕ → ℕ → List ℕ → Outcome
-words_in line from to out = cond (leb from to && leb to (length line)) (written out (pieces_of (slice from to line))) (record { says = Bad; slots = out })
+words_in line from to out = cond (leb from to && leb to (length line)) (written out (pieces_of (slice from to line))) (record { says = None; slots = out })

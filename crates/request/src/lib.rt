@@ -1,9 +1,8 @@
 // Reading a request line: its fields, and the bytes that a field in hex says.
 #![tactic(auto)]
 
-ghost use Rattle.std.specs.Prelude.{◌≡◌, true, ◌+◌, ◌-◌, ◌/◌, ◌≤◌, length};
-ghost use Rattle.std.proofs.Math.Seq.{slice};
-ghost use Rattle.util.specs.Run.{run_end};
+ghost use Rattle.std.specs.Prelude.{◌≡◌, ◌↔◌, true, ◌+◌, ◌/◌, ◌<◌, ◌≤◌, All, IsTrue, length};
+ghost use Rattle.integer.specs.Digit.{digit_of};
 ghost use Rattle.request.specs.Field.{is_ink, field_at};
 ghost use Rattle.request.specs.Hex.{are_pairs, bytes_of, is_dash};
 ghost use Rattle.request.specs.Unhex.{Outcome, unhexed, written};
@@ -11,9 +10,9 @@ ghost use Rattle.request.specs.Unhex.{Outcome, unhexed, written};
 mod table_text;
 
 use integer::digit_value;
-use kind::is_white_space;
-pub use table_text::{Number, Words, read_number, read_words, slash};
-use util::skip_ws;
+use kind::{Class, is_white_space};
+pub use table_text::{read_number, read_words, slash};
+use util::{run_end, skip_ws};
 
 // A part of a line, from its start up to its end.
 #[derive(Clone, Copy)]
@@ -28,96 +27,69 @@ pub fn field(line: &[u8], at: usize) -> Part
     ensures { result ≡ field_at line.now at }
 {
     let start = skip_ws(line, at);
-    let end = skip_ink(line, start);
-    Part { start, end }
+    Part {
+        start,
+        end: run_end::<Ink>(line, start),
+    }
 }
 
-// The place behind what is no white space, from a place on.
-fn skip_ink(line: &[u8], at: usize) -> usize
-    ensures { result ≡ run_end is_ink line.now at }
+// The class of what is no white space.
+struct Ink;
+
+impl Class for Ink {
+    ghost class = { is_ink };
+
+    fn has(b: u8) -> bool {
+        !is_white_space(b)
+    }
+}
+
+// Writes the bytes that the hex digits of a part of the line say into a buffer, from a place on, and answers the
+// place behind them. `-` says the empty text. What is no part of the line, no hex, or too long for the buffer writes
+// nothing.
+pub fn unhex(line: &[u8], part: Part, out: &mut [u8], at: usize) -> Option<usize>
+    ensures { (record { says = result; slots = out.new }) ≡ unhexed line.now part.start part.end out.old at }
 {
-    let mut i = at;
-    while i < line.len() {
-        if is_white_space(line[i]) {
-            return i;
-        }
-        i += 1;
+    let hex = line.get(part.start..part.end)?;
+    let room = out.len().checked_sub(at)?;
+    if is_dash(hex) {
+        return Some(at);
     }
-    i
-}
-
-// The place behind a text that was written, or that none was.
-#[derive(Clone, Copy)]
-pub enum Text {
-    Until(usize),
-    Bad,
-}
-
-// Writes the bytes that the hex digits from..to of a line say into a buffer, from a place on. `-` says the
-// empty text. What is no part of the line, no hex, or too long for the buffer is bad and writes nothing.
-pub fn unhex(line: &[u8], from: usize, to: usize, out: &mut [u8], at: usize) -> Text
-    ensures { (record { says = result; slots = out.new }) ≡ unhexed line.now from to out.old at }
-{
-    if to < from {
-        return Text::Bad;
+    if !are_pairs(hex) || room < hex.len() / 2 {
+        return None;
     }
-    if line.len() < to {
-        return Text::Bad;
-    }
-    if out.len() < at {
-        return Text::Bad;
-    }
-    if is_dash(&line[from..to]) {
-        return Text::Until(at);
-    }
-    if !are_pairs(line, from, to) {
-        return Text::Bad;
-    }
-    if out.len() - at < (to - from) / 2 {
-        return Text::Bad;
-    }
-    Text::Until(write_bytes(line, from, to, out, at))
+    Some(write_bytes(hex, out, at))
 }
 
 // Whether a text is `-` alone.
 fn is_dash(s: &[u8]) -> bool
     ensures { result ≡ is_dash s.now }
 {
-    if s.len() != 1 {
-        return false;
-    }
-    s[0] == b'-'
+    s == b"-".as_slice()
 }
 
-// Whether a part of the line is pairs of hex digits.
-fn are_pairs(line: &[u8], from: usize, to: usize) -> bool
-    requires { (from ≤ to) × (to ≤ length line.now) }
-    ensures { result ≡ are_pairs (slice from to line.now) }
+// Whether a text is pairs of hex digits.
+fn are_pairs(hex: &[u8]) -> bool
+    ensures { result ≡ are_pairs hex.now }
 {
-    let mut i = from;
-    while 2 <= to - i {
-        if 16 <= digit_value(line[i]) {
-            return false;
-        }
-        if 16 <= digit_value(line[i + 1]) {
-            return false;
-        }
-        i += 2;
-    }
-    i == to
+    hex.len() % 2 == 0 && are_digits(hex)
+}
+
+// Whether a text is hex digits.
+fn are_digits(hex: &[u8]) -> bool
+    ensures { IsTrue result ↔ All (λ b. digit_of b < 16) hex.now }
+{
+    hex.iter().all(|b| digit_value(*b) < 16)
 }
 
 // Writes the byte of each pair, and answers the place behind the last.
-fn write_bytes(line: &[u8], from: usize, to: usize, out: &mut [u8], at: usize) -> usize
-    requires { (from ≤ to) × (to ≤ length line.now) × (at + (to - from) / 2 ≤ length out.old) × (are_pairs (slice from to line.now) ≡ true) }
-    ensures { (record { says = Text.Until result; slots = out.new }) ≡ written out.old at (bytes_of (slice from to line.now)) }
+fn write_bytes(hex: &[u8], out: &mut [u8], at: usize) -> usize
+    requires { (at + length hex.now / 2 ≤ length out.old) × (are_pairs hex.now ≡ true) }
+    ensures { (record { says = Some result; slots = out.new }) ≡ written out.old at (bytes_of hex.now) }
 {
-    let mut i = from;
-    let mut k = at;
-    while i < to {
-        out[k] = digit_value(line[i]) * 16 + digit_value(line[i + 1]);
-        i += 2;
-        k += 1;
+    let end = at + hex.len() / 2;
+    for (i, slot) in out[at..end].iter_mut().enumerate() {
+        *slot = digit_value(hex[2 * i]) * 16 + digit_value(hex[2 * i + 1]);
     }
-    k
+    end
 }

@@ -1,126 +1,75 @@
 // Reading the table of a request line, and the numbers of its other fields.
-ghost use Rattle.std.specs.Prelude.{◌≡◌, set};
-ghost use Rattle.util.specs.Run.{run_end};
+ghost use Rattle.std.specs.Prelude.{◌≡◌};
 ghost use Rattle.request.specs.Slash.{is_other, slash_at};
 ghost use Rattle.request.specs.Number.{number_of, number_in};
 ghost use Rattle.request.specs.Words.{pieces, written, words_in};
 
-use crate::is_dash;
-use integer::{Radix, Unsigned};
+use crate::{Part, is_dash};
+use integer::Radix;
+use kind::Class;
+use util::run_end;
 
-// The place of the first `/` of a line from a place on and before another. Where there is none, the end of what
-// was looked through.
-pub fn slash(line: &[u8], from: usize, to: usize) -> usize
-    ensures { result ≡ slash_at line.now from to }
+// The place of the first `/` of a part of the line. Where there is none, the end of what was looked through.
+pub fn slash(line: &[u8], part: Part) -> usize
+    ensures { result ≡ slash_at line.now part.start part.end }
 {
-    if line.len() < to {
-        return find(line, from, b'/');
-    }
-    find(&line[..to], from, b'/')
+    let end = part.end.min(line.len());
+    run_end::<NotSlash>(&line[..end], part.start)
 }
 
-// The first place of a byte from a place on, or the end of the text.
-fn find(s: &[u8], at: usize, b: u8) -> usize
-    ensures { result ≡ run_end (is_other b) s.now at }
-{
-    let mut i = at;
-    while i < s.len() {
-        if s[i] == b {
-            return i;
-        }
-        i += 1;
-    }
-    i
-}
+// The class of any byte but `/`.
+struct NotSlash;
 
-// A number, or that none was read.
-#[derive(Clone, Copy)]
-pub enum Number {
-    Value(u64),
-    Bad,
+impl Class for NotSlash {
+    ghost class = { is_other 47 };
+
+    fn has(b: u8) -> bool {
+        b != b'/'
+    }
 }
 
 // The decimal number that a part of the line is.
-pub fn read_number(line: &[u8], from: usize, to: usize) -> Number
-    ensures { result ≡ number_in line.now from to }
+pub fn read_number(line: &[u8], part: Part) -> Option<u64>
+    ensures { result ≡ number_in line.now part.start part.end }
 {
-    if to < from {
-        return Number::Bad;
-    }
-    if line.len() < to {
-        return Number::Bad;
-    }
-    whole_number(&line[from..to])
+    whole_number(line.get(part.start..part.end)?)
 }
 
 // The decimal number that a text is.
-fn whole_number(s: &[u8]) -> Number
+fn whole_number(s: &[u8]) -> Option<u64>
     ensures { result ≡ number_of s.now }
 {
-    match integer::read_unsigned(s, 0, Radix::Decimal) {
-        Unsigned::Value { value, end } => {
-            if end < s.len() {
-                return Number::Bad;
-            }
-            Number::Value(value)
-        }
-        Unsigned::NoDigit => Number::Bad,
-        Unsigned::TooLarge => Number::Bad,
+    let (value, end) = integer::read_unsigned(s, 0, Radix::Decimal).ok()?;
+    if end < s.len() {
+        return None;
     }
+    Some(value)
 }
 
-// How many words were read, or that not all were words.
-#[derive(Clone, Copy)]
-pub enum Words {
-    Count(usize),
-    Bad,
-}
-
-// Writes the decimal numbers that a part of the line joins by commas into a buffer, from its front on. `-` says no
-// word. Words that find no room are counted and not kept. Of what is bad, the words before its first fault are
-// written.
-pub fn read_words(line: &[u8], from: usize, to: usize, out: &mut [u64]) -> Words
-    ensures { (record { says = result; slots = out.new }) ≡ words_in line.now from to out.old }
+// Writes the decimal numbers that a part of the line joins by commas into a buffer, from its front on, and answers
+// how many there are. `-` says no word. Words that find no room are counted and not kept. Of what is bad, the words
+// before its first fault are written.
+pub fn read_words(line: &[u8], part: Part, out: &mut [u64]) -> Option<usize>
+    ensures { (record { says = result; slots = out.new }) ≡ words_in line.now part.start part.end out.old }
 {
-    if to < from {
-        return Words::Bad;
+    let words = line.get(part.start..part.end)?;
+    if is_dash(words) {
+        return Some(0);
     }
-    if line.len() < to {
-        return Words::Bad;
-    }
-    let part = &line[from..to];
-    if is_dash(part) {
-        return Words::Count(0);
-    }
-    write_words(part, out)
+    write_words(words, out)
 }
 
 // Writes the words of a text, one after the other.
-fn write_words(s: &[u8], out: &mut [u64]) -> Words
+fn write_words(s: &[u8], out: &mut [u64]) -> Option<usize>
     ensures { (record { says = result; slots = out.new }) ≡ written out.old (pieces s.now) }
 {
-    let mut at = 0;
     let mut n = 0;
-    loop {
-        let end = find(s, at, b',');
-        let Number::Value(word) = whole_number(&s[at..end]) else {
-            return Words::Bad;
-        };
-        keep(out, n, word);
-        n += 1;
-        if s.len() <= end {
-            return Words::Count(n);
+    for piece in s.split(|b| *b == b',') {
+        let word = whole_number(piece)?;
+        if n < out.len() {
+            out[n] = word;
         }
-        at = end + 1;
+        n += 1;
     }
-}
-
-// Writes a word, where the buffer has a slot for it.
-fn keep(out: &mut [u64], n: usize, word: u64)
-    ensures { out.new ≡ set out.old n word }
-{
-    if out.len() <= n {
-        return;
-    }
-    out[n] = word;
+    Some(n)
 }

@@ -1,4 +1,5 @@
 -- In an accepted table the answer to the words that are heard is what the routes say.
+use Rattle.std.specs.Prelude.{Result, Ok, Some, None}
 use Prim.Native.Nat.{ℕ, ◌+◌, ◌-◌}
 use mathlib.Core.Path.{◌≡◌, refl, sym, ap, ◌∙◌}
 use mathlib.Core.List.{List}
@@ -12,16 +13,16 @@ use Rattle.node.specs.Word.{command_number}
 use Rattle.node.specs.Tree.{default, first, count, name_of, Child}
 use Rattle.routes.specs.TableClaims.{Tree}
 use Rattle.branch.specs.Children.{Below, unsaid_in, Picks, first_one, not_one}
-use Rattle.branch.specs.declared.Pick.TheVariants as pick
 use Rattle.token.specs.{View.part_of, declared.View.View}
 use Rattle.tokenizer.specs.declared.State.{State}
 use Rattle.spoken.specs.Spoken.{spoken_by}
 use Rattle.ahead.specs.{Seen.seen_with, Seen.seen_at, declared.Stop.Stop, declared.Ahead.Ahead, declared.Seen.Seen}
 use Rattle.header.specs.Header.{behind_query, query_answer, answer_at_leaf, leaf_answer, at_branch, turn_of, undefined, Reads, leaf, refused, said, unsaid, unknown, ended, nowhere}
-use Rattle.header.specs.{Turn.Turn, declared.Header.Header}
+use Rattle.header.specs.{Turn.Turn}
 use Rattle.header.specs.Turn as turn
 use Rattle.routes.specs.Heard.{Hears, stop, asked, word}
 use Rattle.routes.proofs.Outcomes.{Outcome, at_leaf, past_leaf, no_default, unspelled, by_default, by_word, at_end}
+use Rattle.header.specs.declared.Header.{Header}
 
 module _ (s : List ℕ) (seen : Seen) where
   stops : {x : Stop} → seen.ahead ≡ Ahead.Stop x → turn_of s seen ≡ turn.Stop
@@ -34,15 +35,15 @@ module _ (s : List ℕ) (seen : Seen) where
 
   -- a leaf's answer
   leaf_stops : (w h : ℕ) {x : Stop} {place : ℕ} → seen.ahead ≡ Ahead.Stop x → seen.state.place ≡ place
-      → leaf_answer s w h seen ≡ Header.Found (command_number w) false h x place
+      → leaf_answer s w h seen ≡ Ok (record { command = command_number w; query = false; branch = h; stop = x; place = place })
   unfolding leaf_answer
-  leaf_stops w h {x} e f = ap (answer_at_leaf s w h seen.state) e ∙ ap (Header.Found (command_number w) false h x) f
+  leaf_stops w h {x} e f = ap (answer_at_leaf s w h seen.state) e ∙ ap (λ p. Ok (record { command = command_number w; query = false; branch = h; stop = x; place = p })) f
 
   leaf_asks : (w h : ℕ) {x : Stop} {place : ℕ} → seen.ahead ≡ Ahead.Query → (seen_at s seen.state).ahead ≡ Ahead.Stop x → (seen_at s seen.state).state.place ≡ place
-      → leaf_answer s w h seen ≡ Header.Found (command_number w) true h x place
+      → leaf_answer s w h seen ≡ Ok (record { command = command_number w; query = true; branch = h; stop = x; place = place })
   unfolding leaf_answer query_answer
   leaf_asks w h {x} e f g =
-      ap (answer_at_leaf s w h seen.state) e ∙ ap (behind_query w h (seen_at s seen.state).state) f ∙ ap (Header.Found (command_number w) true h x) g
+      ap (answer_at_leaf s w h seen.state) e ∙ ap (behind_query w h (seen_at s seen.state).state) f ∙ ap (λ p. Ok (record { command = command_number w; query = true; branch = h; stop = x; place = p })) g
 
   leaf_goes_on : (w h : ℕ) {v : View} {at : State} → turn_of s seen ≡ turn.Word v at → leaf_answer s w h seen ≡ undefined
   unfolding turn_of leaf_answer
@@ -63,10 +64,10 @@ again s v st = refl
 -- what was picked
 
 module _ {t : List ℕ} {b : ℕ} {q : ℕ → Bool} where
-  picked : {k : ℕ} → Picks t b q (pick.Child k) → Below t b k × (q k ≡ true)
+  picked : {k : ℕ} → Picks t b q (Some k) → Below t b k × (q k ≡ true)
   picked (first_one x e f) = (x, e)
 
-  not_picked : Picks t b q pick.None → (j : ℕ) → Below t b j → q j ≡ false
+  not_picked : Picks t b q None → (j : ℕ) → Below t b j → q j ≡ false
   not_picked (not_one f) = f
 
 module _ (t names : List ℕ) (ok : Tree t names) where
@@ -82,14 +83,14 @@ module _ (t names : List ℕ) (ok : Tree t names) where
   unfolding spoken_by
   says {b} {k} c w = match_spells (name_of t names k) (ok.named k (omega (arith, ok.after c)) (ok.inside c)) w
 
-  never_said : {b : ℕ} (w : List ℕ) → Picks t b (spoken_by t names w) pick.None → (j : ℕ) → Child t b j → spells (name_of t names j) w ≡ false
+  never_said : {b : ℕ} (w : List ℕ) → Picks t b (spoken_by t names w) None → (j : ℕ) → Child t b j → spells (name_of t names j) w ≡ false
   never_said w x j c = sym (says c w) ∙ not_picked x j (below c)
 
-  never_default : {b : ℕ} → Picks t b (unsaid_in t) pick.None → (j : ℕ) → Child t b j → default t j ≡ false
+  never_default : {b : ℕ} → Picks t b (unsaid_in t) None → (j : ℕ) → Child t b j → default t j ≡ false
   unfolding unsaid_in
   never_default x j c = not_picked x j (below c)
 
-  is_default : {b k : ℕ} → Picks t b (unsaid_in t) (pick.Child k) → default t k ≡ true
+  is_default : {b k : ℕ} → Picks t b (unsaid_in t) (Some k) → default t k ≡ true
   unfolding unsaid_in
   is_default x = (picked x).1
 
@@ -109,7 +110,7 @@ hears_on : {s : List ℕ} {end : Stop} {place : ℕ} {x : Turn} {at at' : State}
     → x ≡ turn.Word v at → x ≡ turn.Word v' at' → Hears s end place words q (seen_at s at) → Hears s end place words q (seen_at s at')
 hears_on {at = at} {at'} e f x = let z : at ≡ at' = cc in rw z at x
 
-pub heard : {t names s : List ℕ} {end : Stop} {place : ℕ} {words : List (List ℕ)} {q : Bool} {h n : ℕ} {seen : Seen} {r : Header}
+pub heard : {t names s : List ℕ} {end : Stop} {place : ℕ} {words : List (List ℕ)} {q : Bool} {h n : ℕ} {seen : Seen} {r : Result Header ErrorCode}
     → Tree t names → Hears s end place words q seen → Reads t names s h n seen r → Outcome t names q end place h n words r
 heard {t} {names} {s} {end} {place} {h = h} {n} {seen} ok (stop e g) (leaf m) = rw (leaf_stops s seen (get_or t n 0) h e g) (at_leaf t names false end place m)
 heard {t} {names} {s} {end} {place} {h = h} {n} {seen} ok (asked e f g) (leaf m) = rw (leaf_asks s seen (get_or t n 0) h e f g) (at_leaf t names true end place m)

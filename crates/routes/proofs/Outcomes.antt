@@ -1,6 +1,7 @@
 -- In an accepted table there is one route at most for a start and words: the same nodes, spoken or not, leaf and branch kept. And what
 -- a route's first step says of the answer: one law for each way on from a node. No order of search is left in them but that no child is
 -- spelled.
+use Rattle.std.specs.Prelude.{Result, Ok}
 use Prim.Native.Nat.{ℕ, ◌≤◌}
 use mathlib.Core.Path.{◌≡◌, refl, sym, ap, ap₂, subst}
 use mathlib.Core.List.{List, [], ◌∷◌}
@@ -12,9 +13,11 @@ use Rattle.mnemonic.specs.Spelling.{spells}
 use Rattle.node.specs.Word.{command_number}
 use Rattle.node.specs.Tree.{branch, default, name_of, Child, Near, child, under}
 use Rattle.routes.specs.TableClaims.{Tree}
-use Rattle.header.specs.{Header.undefined, declared.Header.Header}
+use Rattle.header.specs.{Header.undefined}
 use Rattle.ahead.specs.declared.Stop.{Stop}
 use Rattle.routes.specs.Route.{Stage, by_word as spoken-stage, silent, Route, here, said, unsaid}
+use Rattle.error.specs.declared.ErrorCode.{ErrorCode}
+use Rattle.header.specs.declared.Header.{Header}
 
 -- the first word is spoken for a near node
 spoken : {t names : List ℕ} {h n leaf kept : ℕ} {w : List ℕ} {words : List (List ℕ)} {stages : List Stage}
@@ -57,9 +60,9 @@ module _ (t names : List ℕ) (ok : Tree t names) where
   unique (unsaid c d r) (unsaid c' d' r') = let q = ok.one_default c c' d d' in one_more silent q (unique r (from_same q r'))
 
 -- the answer is a route's command and the branch that it keeps, with the form and the end given; or there is no route, and it is -113
-pub data Outcome (t names : List ℕ) (query : Bool) (end : Stop) (place : ℕ) (h n : ℕ) (words : List (List ℕ)) : Header → Type 0 where
+pub data Outcome (t names : List ℕ) (query : Bool) (end : Stop) (place : ℕ) (h n : ℕ) (words : List (List ℕ)) : Result Header ErrorCode → Type 0 where
   routed : {stages : List Stage} {leaf kept : ℕ} → Route t names h n words stages leaf kept
-      → Outcome t names query end place h n words (Header.Found (command_number (get_or t leaf 0)) query kept end place)
+      → Outcome t names query end place h n words (Ok (record { command = command_number (get_or t leaf 0); query = query; branch = kept; stop = end; place = place }))
   lost : ((stages : List Stage) (leaf kept : ℕ) → Route t names h n words stages leaf kept → ⊥) → Outcome t names query end place h n words undefined
 
 module _ (t names : List ℕ) (query : Bool) (end : Stop) (place : ℕ) where
@@ -68,7 +71,7 @@ module _ (t names : List ℕ) (query : Bool) (end : Stop) (place : ℕ) where
   goes_on (unsaid c d r) = c.holder
 
   module _ {h n : ℕ} where
-    pub at_leaf : branch t n ≡ false → Outcome t names query end place h n [] (Header.Found (command_number (get_or t n 0)) query h end place)
+    pub at_leaf : branch t n ≡ false → Outcome t names query end place h n [] (Ok (record { command = command_number (get_or t n 0); query = query; branch = h; stop = end; place = place }))
     at_leaf m = routed (here m)
 
     pub past_leaf : {w : List ℕ} {words : List (List ℕ)} → branch t n ≡ false → Outcome t names query end place h n (w ∷ words) undefined
@@ -89,7 +92,7 @@ module _ (t names : List ℕ) (query : Bool) (end : Stop) (place : ℕ) where
           none (said {k = k} c s r) = clash s (never k c)
           none (unsaid {k = k} c d r) = clash d (never' k c)
 
-      pub by_default : Tree t names → {k : ℕ} → Child t n k → {r : Header} → default t k ≡ true → Outcome t names query end place h k (w ∷ words) r
+      pub by_default : Tree t names → {k : ℕ} → Child t n k → {r : Result Header ErrorCode} → default t k ≡ true → Outcome t names query end place h k (w ∷ words) r
           → Outcome t names query end place h n (w ∷ words) r
       by_default ok c d (routed r) = routed (unsaid c d r)
       by_default ok c d (lost l) = lost (λ stages leaf kept r. none r)
@@ -99,7 +102,7 @@ module _ (t names : List ℕ) (query : Bool) (end : Stop) (place : ℕ) where
           none (unsaid c' d' r) = l _ _ _ (from_same (ok.one_default c c' d d') r)
 
     module _ (ok : Tree t names) {k : ℕ} (c : Child t n k) where
-      pub by_word : {r : Header} {w : List ℕ} {words : List (List ℕ)} → spells (name_of t names k) w ≡ true → Outcome t names query end place n k words r
+      pub by_word : {r : Result Header ErrorCode} {w : List ℕ} {words : List (List ℕ)} → spells (name_of t names k) w ≡ true → Outcome t names query end place n k words r
           → Outcome t names query end place h n (w ∷ words) r
       by_word s (routed r) = routed (said c s r)
       by_word {w} {words} s (lost l) = lost (λ stages leaf kept r. none r)
@@ -108,7 +111,7 @@ module _ (t names : List ℕ) (query : Bool) (end : Stop) (place : ℕ) where
           none (said c' s' r) = l _ _ _ (from_same (ok.apart (child c) (child c') w s s') r)
           none (unsaid c' d r) = not_both t names ok c s c' d r
 
-      pub at_end : {r : Header} → default t k ≡ true → Outcome t names query end place h k [] r → Outcome t names query end place h n [] r
+      pub at_end : {r : Result Header ErrorCode} → default t k ≡ true → Outcome t names query end place h k [] r → Outcome t names query end place h n [] r
       at_end d (routed r) = routed (unsaid c d r)
       at_end d (lost l) = lost (λ stages leaf kept r. none r)
         where

@@ -10,6 +10,7 @@ use lib.ListN.{length, get_or, drop, length-append}
 use lib.Seq.{take-append_seam}
 use borrow.Author.Tests.{le-leb}
 use Rattle.kind.specs.{Text.ascii, Kind.kind_of}
+use Rattle.kind.specs.declared.Kind.TheVariants as kind
 use Rattle.kind.specs.Class.{is_white_space, is_capital, is_small, is_digit, is_letter, in_mnemonic}
 use Rattle.kind.proofs.Tests.{or_right}
 use Rattle.util.specs.Run.{run_end, every}
@@ -78,7 +79,7 @@ module _ (s : List ℕ) (p : ℕ) where
       let f : (leb (length s) (p + 1) || is_letter (get_or s (p + 1) 0)) ≡ true = or_right (leb (length s) (p + 1)) l in
       rw f
 
-  colon_kind : (y : List ℕ) → drop p s ≡ 58 ∷ y → kind_of (get_or s p 0) ≡ 3
+  colon_kind : (y : List ℕ) → drop p s ≡ 58 ∷ y → kind_of (get_or s p 0) ≡ kind.Colon
   unfolding kind_of is_white_space
   colon_kind y h = rw (here_get s p (58 ∷ y) h)
 
@@ -90,7 +91,7 @@ module _ (s : List ℕ) (p : ℕ) where
     unfolding question_before passed question_to follows_query
     question_well = rw (le-leb (length s) (p + 1) (omega (arith, here_length s p (63 ∷ []) h)))
 
-    question_kind : kind_of (get_or s p 0) ≡ 4
+    question_kind : kind_of (get_or s p 0) ≡ kind.Question
     unfolding kind_of is_white_space
     question_kind = rw (here_get s p (63 ∷ []) h)
 
@@ -109,7 +110,7 @@ module _ (s : List ℕ) (p : ℕ) where
     unfolding mnemonic
     star_mnemonic = rw (star_here, star_run, le-leb (p + 1 + length x - p) 12 (omega arith))
 
-    star_kind : kind_of (get_or s p 0) ≡ 2
+    star_kind : kind_of (get_or s p 0) ≡ kind.Star
     unfolding kind_of is_white_space
     star_kind = rw (here_get s p (42 ∷ (x ++ y)) h)
 

@@ -1,4 +1,5 @@
 -- The claims.
+use Rattle.std.specs.Prelude.{Result, Err}
 use Prim.Native.Nat.{ℕ, ◌≤◌, ◌<◌}
 use mathlib.Core.Path.{◌≡◌, refl, sym, ap, ◌∙◌}
 use mathlib.Core.Logic.{◌⊎◌, inl, inr}
@@ -14,7 +15,7 @@ use Rattle.node.specs.Word.{is_branch, is_default, name_length, name_start, firs
 use Rattle.node.specs.Tree.{branch, name_of, Near}
 use Rattle.layout.specs.Layout.{NodeCount, no_node, too_many, NodeFields, some_spare_bits, root_no_branch, root_default, root_name_length, root_name_start, leaf_children, behind, ChildBlocks, not_behind, not_to_end, too_early}
 use Rattle.table.specs.Fault.{Fault, node_count, node_fields, child_blocks, node_name, two_defaults, shared_spelling, Accepted, Verdict, accepts, refuses}
-use Rattle.table.specs.{Internal.Ready, declared.Checked.Checked}
+use Rattle.table.specs.{Internal.Ready}
 use Rattle.routes.specs.TableClaims.{Tree, root_word, Claims}
 use Rattle.layout.proofs.{Blocks.in_table, NodeNames.name_of_lem}
 use Rattle.table.proofs.Shape.{equal, holder_of, one_holder, child_after, child_in, near_in}
@@ -78,11 +79,11 @@ is_coded (two_defaults x) = refl
 is_coded (shared_spelling x) = refl
 
 module _ (t names : List ℕ) where
-  one_verdict : (c d : Checked) → Verdict t names c → Verdict t names d → c ≡ d
+  one_verdict : (c d : Result Unit ErrorCode) → Verdict t names c → Verdict t names d → c ≡ d
   one_verdict c d (accepts x) (accepts y) = refl
   one_verdict c d (accepts x) (refuses {e} {n} f g) = absurd (x.faultless e n f)
   one_verdict c d (refuses {e} {n} f g) (accepts y) = absurd (y.faultless e n f)
-  one_verdict c d (refuses {e} {n} f g) (refuses {e = h} {n = m} u v) = ap Checked.Fault (is_coded f ∙ ap coded (go (less_or_not n m) (less_or_not m n)) ∙ sym (is_coded u))
+  one_verdict c d (refuses {e} {n} f g) (refuses {e = h} {n = m} u v) = ap Err (is_coded f ∙ ap coded (go (less_or_not n m) (less_or_not m n)) ∙ sym (is_coded u))
     where
       go : (n < m) ⊎ (m ≤ n) → (m < n) ⊎ (n ≤ m) → n ≡ m
       go (inl l) z = absurd (v e n l f)

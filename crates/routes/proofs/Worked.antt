@@ -1,4 +1,5 @@
 -- The worked tree.
+use Rattle.std.specs.Prelude.{Result, Ok}
 use Prim.Native.Nat.{ℕ, ◌+◌}
 use mathlib.Core.Path.{◌≡◌, refl}
 use mathlib.Core.List.{List, [], ◌∷◌}
@@ -14,10 +15,12 @@ use Rattle.mnemonic.specs.Spelling.{spells}
 use Rattle.node.specs.Word.{is_branch, is_default, name_length, name_start, first_child, command_number, child_count, name_in}
 use Rattle.node.specs.Tree.{branch, first, count, Child}
 use Rattle.routes.specs.Route.{Stage, Route, here, said, unsaid}
-use Rattle.tree.specs.{Alone.ResolvesAlone, declared.Resolved.Resolved, declared.Resolved.TheVariants.Command}
+use Rattle.tree.specs.{Alone.ResolvesAlone}
 use Rattle.routes.specs.WellFormed.{last, WellFormed}
 use Rattle.routes.specs.Worked.{nodes, names, Here, Worked}
 use Rattle.routes.proofs.{Faultless.accepted, RouteClaims.claims}
+use Rattle.error.specs.declared.ErrorCode.{ErrorCode}
+use Rattle.tree.specs.declared.Resolved.{Resolved}
 
 -- a child, told by tests that compute
 child : (b k : ℕ) → branch nodes b ≡ true → leb (first nodes b) k ≡ true → ltb k (first nodes b + count nodes b) ≡ true → Child nodes b k
@@ -42,7 +45,7 @@ well_formed =
       fits = leb-true 4 65535 refl;
     }
 
-voltage_text : (r : Resolved) → ResolvesAlone nodes names 0 (ascii "VOLT") r → r ≡ Command 6 false 3
+voltage_text : (r : Result Resolved ErrorCode) → ResolvesAlone nodes names 0 (ascii "VOLT") r → r ≡ Ok (record { command = 6; query = false; branch = 3 })
 unfolding is_branch
 voltage_text r x =
     ((claims.demand nodes names 0 (ascii "VOLT") false (ascii "VOLT" ∷ []) false r accepted refl well_formed x).command 6 3).1 voltage

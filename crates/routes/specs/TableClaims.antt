@@ -1,12 +1,11 @@
 -- What is proved of command tables, besides the promise of the check. The proofs are in proofs/TableClaims.
-use Rattle.std.specs.Prelude.{ℕ, ◌+◌, ◌^◌, ◌<◌, ◌≡◌, ◌↔◌, List, [], ◌∷◌, true, pos, length}
+use Rattle.std.specs.Prelude.{ℕ, ◌+◌, ◌^◌, ◌<◌, ◌≡◌, ◌↔◌, List, [], ◌∷◌, true, pos, length, Result}
 use Rattle.error.specs.Code.{code_of}
 use Rattle.error.specs.declared.ErrorCode.{ErrorCode}
 use Rattle.mnemonic.specs.Spelling.{Name, spells}
 use Rattle.node.specs.Tree.{branch, default, name_of, Child, Near}
 use Rattle.table.specs.Fault.{SharedSpelling, Fault, Accepted, Verdict}
 use Rattle.table.specs.Internal.{Ready, SharesAt}
-use Rattle.table.specs.declared.Checked.{Checked}
 
 -- An accepted table is a tree of named nodes, in which a word has one meaning at most at each branch.
 pub record Tree (t names : List ℕ) : Type 0 where
@@ -35,7 +34,7 @@ pub record Claims : Type 0 where
   -- a root alone is accepted
   pub root_alone : Accepted (root_word ∷ []) []
   -- the check can say one thing only of a table
-  pub one_verdict : (t names : List ℕ) (c d : Checked) → Verdict t names c → Verdict t names d → c ≡ d
+  pub one_verdict : (t names : List ℕ) (c d : Result Unit ErrorCode) → Verdict t names c → Verdict t names d → c ≡ d
   -- two near nodes of some branch share a spelling exactly where, at some branch, two children do, or a child and a near node of the
   -- default branch
   pub enough : (t names : List ℕ) → Ready t names → SharedSpelling t names ↔ ((b : ℕ) × (branch t b ≡ true) × SharesAt t names b)

@@ -1,11 +1,11 @@
 -- A worked tree, that of the program commandcheck, and routes through it.
-use Rattle.std.specs.Prelude.{ℕ, ◌+◌, ◌*◌, ◌^◌, ◌≡◌, List, [], ◌∷◌, false}
+use Rattle.std.specs.Prelude.{ℕ, ◌+◌, ◌*◌, ◌^◌, ◌≡◌, List, [], ◌∷◌, false, Result, Ok}
 use Rattle.kind.specs.Text.{ascii}
 use Rattle.table.specs.Fault.{Accepted}
 use Rattle.routes.specs.Route.{Leads}
 use Rattle.tree.specs.Alone.{ResolvesAlone}
+use Rattle.error.specs.declared.ErrorCode.{ErrorCode}
 use Rattle.tree.specs.declared.Resolved.{Resolved}
-use Rattle.tree.specs.declared.Resolved.TheVariants.{Command}
 
 -- a leaf and a branch: their default bit, the length and the start of their name, and a leaf's command or a branch's first child and
 -- child count
@@ -50,7 +50,7 @@ pub record Worked : Type 0 where
   -- SENSe and DC unsaid: SENSe holds the node spoken last
   pub voltage : Here 0 (ascii "VOLT" ∷ []) 6 3
   -- and so this is what the text is answered
-  pub voltage_text : (r : Resolved) → ResolvesAlone nodes names 0 (ascii "VOLT") r → r ≡ Command 6 false 3
+  pub voltage_text : (r : Result Resolved ErrorCode) → ResolvesAlone nodes names 0 (ascii "VOLT") r → r ≡ Ok (record { command = 6; query = false; branch = 3 })
   -- DC spoken: VOLTage holds it
   pub voltage_dc : Here 0 (ascii "VOLTage" ∷ ascii "DC" ∷ []) 6 7
   -- SENSe spoken, DC unsaid

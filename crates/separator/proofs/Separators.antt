@@ -1,4 +1,5 @@
 -- Laws of the separators, as the code meets them.
+use Rattle.std.specs.Prelude.{Ok, Err}
 use Prim.Native.Nat.{ℕ, ◌≤◌, ◌<◌}
 use mathlib.Core.Path.{◌≡◌}
 use mathlib.Core.List.{List}
@@ -10,14 +11,13 @@ use Rattle.error.specs.declared.ErrorCode.TheVariants.{SyntaxError, InvalidSepar
 use Rattle.kind.specs.Class.{is_white_space, is_letter}
 use Rattle.util.specs.Run.{run_end, stands_at}
 use Rattle.separator.specs.Separator.{newline_to, follows_colon, colon_to, follows_query, question_to, item_at, comma_to}
-use Rattle.separator.specs.declared.Pass.TheVariants.{To, Refused}
 
 module _ (s : List ℕ) (next : ℕ) where
-  pub newline_inside' : next < length s → Refused SyntaxError ≡ newline_to s next
+  pub newline_inside' : next < length s → Err SyntaxError ≡ newline_to s next
   unfolding newline_to
   newline_inside' h = rw (lt-ltb next (length s) h)
 
-  pub newline_last' : length s ≤ next → To next ≡ newline_to s next
+  pub newline_last' : length s ≤ next → Ok next ≡ newline_to s next
   unfolding newline_to
   newline_last' h = rw (le-ltb next (length s) h)
 
@@ -33,21 +33,21 @@ module _ (s : List ℕ) (at : ℕ) where
   colon_letter' h r er = rw (lt-leb (length s) at h) er
 
 module _ (s : List ℕ) (next : ℕ) (header common : Bool) (f : Bool) (ef : f ≡ follows_colon s next) where
-  pub colon_ill' : not f ≡ true → Refused InvalidSeparator ≡ colon_to s next header common
+  pub colon_ill' : not f ≡ true → Err InvalidSeparator ≡ colon_to s next header common
   unfolding colon_to
   colon_ill' q = rw (← ef, not-true f q)
 
   module _ (q : not f ≡ false) where
-    pub colon_outside' : not header ≡ true → Refused InvalidSeparator ≡ colon_to s next header common
+    pub colon_outside' : not header ≡ true → Err InvalidSeparator ≡ colon_to s next header common
     unfolding colon_to
     colon_outside' h = rw (← ef, not-false f q, not-true header h)
 
     module _ (h : not header ≡ false) where
-      pub colon_common' : common ≡ true → Refused InvalidSeparator ≡ colon_to s next header common
+      pub colon_common' : common ≡ true → Err InvalidSeparator ≡ colon_to s next header common
       unfolding colon_to
       colon_common' c = rw (← ef, not-false f q, not-false header h, c)
 
-      pub colon_well' : common ≡ false → To next ≡ colon_to s next header common
+      pub colon_well' : common ≡ false → Ok next ≡ colon_to s next header common
       unfolding colon_to
       colon_well' c = rw (← ef, not-false f q, not-false header h, c)
 
@@ -68,37 +68,37 @@ module _ (s : List ℕ) (at : ℕ) where
     query_white' n r er = rw (lt-leb (length s) at h, ne_eqb (get_or s at 0) 59 n) er
 
 module _ (s : List ℕ) (next : ℕ) (header : Bool) (f : Bool) (ef : f ≡ follows_query s next) where
-  pub query_ill' : not f ≡ true → Refused SyntaxError ≡ question_to s next header
+  pub query_ill' : not f ≡ true → Err SyntaxError ≡ question_to s next header
   unfolding question_to
   query_ill' q = rw (← ef, not-true f q)
 
   module _ (q : not f ≡ false) where
-    pub query_outside' : not header ≡ true → Refused SyntaxError ≡ question_to s next header
+    pub query_outside' : not header ≡ true → Err SyntaxError ≡ question_to s next header
     unfolding question_to
     query_outside' h = rw (← ef, not-false f q, not-true header h)
 
-    pub query_well' : not header ≡ false → To next ≡ question_to s next header
+    pub query_well' : not header ≡ false → Ok next ≡ question_to s next header
     unfolding question_to
     query_well' h = rw (← ef, not-false f q, not-false header h)
 
 pub ruleset queries = (rules, query_past', query_unit', query_white', query_ill', query_outside', query_well')
 
 module _ (s : List ℕ) (at : ℕ) (header : Bool) where
-  pub comma_header' : header ≡ true → Refused HeaderSeparatorError ≡ comma_to s at header
+  pub comma_header' : header ≡ true → Err HeaderSeparatorError ≡ comma_to s at header
   unfolding comma_to
   comma_header' h = rw h
 
   module _ (h : header ≡ false) (next : ℕ) (en : next ≡ run_end is_white_space s at) (c : Bool) (ec : c ≡ stands_at 44 s next) where
-    pub comma_twice' : c ≡ true → Refused SyntaxError ≡ comma_to s at header
+    pub comma_twice' : c ≡ true → Err SyntaxError ≡ comma_to s at header
     unfolding comma_to item_at
     comma_twice' q = rw (h, ← en, ← ec, q)
 
     module _ (q : c ≡ false) (u : Bool) (eu : u ≡ stands_at 59 s next) where
-      pub comma_unit' : u ≡ true → Refused SyntaxError ≡ comma_to s at header
+      pub comma_unit' : u ≡ true → Err SyntaxError ≡ comma_to s at header
       unfolding comma_to item_at
       comma_unit' k = rw (h, ← en, ← ec, q, ← eu, k)
 
-      pub comma_well' : u ≡ false → To next ≡ comma_to s at header
+      pub comma_well' : u ≡ false → Ok next ≡ comma_to s at header
       unfolding comma_to item_at
       comma_well' k = rw (h, ← en, ← ec, q, ← eu, k)
 

@@ -1,4 +1,5 @@
-// What separators of a program message let stand behind them: newline, `:`, `?` and `,`. A part of tokenizer/mod.rs of the original.
+// What separators of a program message let stand behind them: newline, `:`, `?` and `,`. A part of tokenizer/mod.rs of the original. Each
+// function answers the place that the separator leads to, or a refusal.
 #![tactic(auto)]
 
 ghost use Rattle.std.specs.Prelude.{◌≡◌};
@@ -6,37 +7,30 @@ ghost use Rattle.separator.specs.Separator.{newline_to, follows_colon, colon_to,
 
 use error::ErrorCode;
 
-// The place that a separator leads to, or a refusal.
-#[derive(Clone, Copy)]
-pub enum Pass {
-    To(usize),
-    Refused(ErrorCode),
-}
-
 // A newline before a place ends the message where it is the last byte.
-pub fn newline(s: &[u8], next: usize) -> Pass
+pub fn newline(s: &[u8], next: usize) -> Result<usize, ErrorCode>
     ensures { result ≡ newline_to s.now next }
 {
     if next < s.len() {
-        return Pass::Refused(ErrorCode::SyntaxError);
+        return Err(ErrorCode::SyntaxError);
     }
-    Pass::To(next)
+    Ok(next)
 }
 
 // A colon before a place.
-pub fn colon(s: &[u8], next: usize, in_header: bool, in_common: bool) -> Pass
+pub fn colon(s: &[u8], next: usize, in_header: bool, in_common: bool) -> Result<usize, ErrorCode>
     ensures { result ≡ colon_to s.now next in_header in_common }
 {
     if !follows_colon(s, next) {
-        return Pass::Refused(ErrorCode::InvalidSeparator);
+        return Err(ErrorCode::InvalidSeparator);
     }
     if !in_header {
-        return Pass::Refused(ErrorCode::InvalidSeparator);
+        return Err(ErrorCode::InvalidSeparator);
     }
     if in_common {
-        return Pass::Refused(ErrorCode::InvalidSeparator);
+        return Err(ErrorCode::InvalidSeparator);
     }
-    Pass::To(next)
+    Ok(next)
 }
 
 // Behind a colon stands a letter, or nothing at all.
@@ -50,16 +44,16 @@ fn follows_colon(s: &[u8], at: usize) -> bool
 }
 
 // A question mark before a place.
-pub fn question(s: &[u8], next: usize, in_header: bool) -> Pass
+pub fn question(s: &[u8], next: usize, in_header: bool) -> Result<usize, ErrorCode>
     ensures { result ≡ question_to s.now next in_header }
 {
     if !follows_query(s, next) {
-        return Pass::Refused(ErrorCode::SyntaxError);
+        return Err(ErrorCode::SyntaxError);
     }
     if !in_header {
-        return Pass::Refused(ErrorCode::SyntaxError);
+        return Err(ErrorCode::SyntaxError);
     }
-    Pass::To(next)
+    Ok(next)
 }
 
 // Behind a question mark stands white space, `;`, or nothing at all.
@@ -76,18 +70,18 @@ fn follows_query(s: &[u8], at: usize) -> bool
 }
 
 // A comma before a place.
-pub fn comma(s: &[u8], at: usize, in_header: bool) -> Pass
+pub fn comma(s: &[u8], at: usize, in_header: bool) -> Result<usize, ErrorCode>
     ensures { result ≡ comma_to s.now at in_header }
 {
     if in_header {
-        return Pass::Refused(ErrorCode::HeaderSeparatorError);
+        return Err(ErrorCode::HeaderSeparatorError);
     }
     let next = util::skip_ws(s, at);
     if util::stands(s, next, b',') {
-        return Pass::Refused(ErrorCode::SyntaxError);
+        return Err(ErrorCode::SyntaxError);
     }
     if util::stands(s, next, b';') {
-        return Pass::Refused(ErrorCode::SyntaxError);
+        return Err(ErrorCode::SyntaxError);
     }
-    Pass::To(next)
+    Ok(next)
 }

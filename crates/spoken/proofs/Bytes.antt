@@ -1,7 +1,8 @@
 -- Laws of single bytes of a name and of a text, as the code meets them.
+use Rattle.std.specs.Prelude.{Some, None}
 use Prim.Native.Nat.{ℕ, ◌+◌, ◌-◌, ◌%◌, ◌≤◌, ◌<◌}
 use mathlib.Core.Path.{◌≡◌, refl, sym, ap, ◌∙◌}
-use mathlib.Core.Logic.{◌⊎◌, inl, inr, ⊎_elim}
+use mathlib.Core.Logic.{⊎_elim}
 use mathlib.Core.List.{List}
 use mathlib.Core.Bool.{Bool, true, false, not, cond, ◌||◌}
 use native.Mathlib.Omega.{arith}
@@ -18,7 +19,6 @@ use Rattle.util.specs.Run.{stands_at}
 use Rattle.mnemonic.specs.Mnemonic.{folded, either_case}
 use Rattle.spoken.specs.Spoken.{is_letter_at}
 use Rattle.spoken.specs.Internal.{agrees, begin_alike, goes_on_at, departs_at, one_added}
-use Rattle.spoken.specs.declared.Spelled.TheVariants as spelled
 
 -- what holds however a test goes
 pub by_bool : {A : Type 0} (c : Bool) → (c ≡ true → A) → (c ≡ false → A) → A
@@ -275,21 +275,21 @@ module _ (s : List ℕ) (at : ℕ) where
 -- a `1` that is added
 
 module _ (s : List ℕ) (at place : ℕ) (in_text : place < length s) where
-  pub not_one' : (get_or s place 0 ≡ 49 → ⊥) → spelled.Not ≡ one_added s at place
+  pub not_one' : (get_or s place 0 ≡ 49 → ⊥) → None ≡ one_added s at place
   unfolding one_added stands_at
   not_one' h = rw (lt-ltb place (length s) in_text, ne_eqb (get_or s place 0) 49 h)
 
   module _ (one : get_or s place 0 ≡ 49) (g : Bool) (e : g ≡ goes_on_at s (place + 1)) where
-    pub one_goes_on' : g ≡ true → spelled.Not ≡ one_added s at place
+    pub one_goes_on' : g ≡ true → None ≡ one_added s at place
     unfolding one_added stands_at
     one_goes_on' q = rw (lt-ltb place (length s) in_text, one, ← e, q)
 
     module _ (q : g ≡ false) where
-      pub one_too_long' : (n : ℕ) → n ≤ place - at → leb 12 n ≡ true → spelled.Not ≡ one_added s at place
+      pub one_too_long' : (n : ℕ) → n ≤ place - at → leb 12 n ≡ true → None ≡ one_added s at place
       unfolding one_added stands_at
       one_too_long' n h l = rw (lt-ltb place (length s) in_text, one, ← e, q, lt-leb (place - at) 11 (omega (arith, h, leb-true 12 n l)))
 
-      pub one_more' : place - at < 12 → spelled.To (place + 1) ≡ one_added s at place
+      pub one_more' : place - at < 12 → Some (place + 1) ≡ one_added s at place
       unfolding one_added stands_at
       one_more' h = rw (lt-ltb place (length s) in_text, one, ← e, q, le-leb (place - at) 11 (omega (arith, h)))
 

@@ -1,5 +1,5 @@
 -- Laws of the letters that a name and a text have alike, as the code meets them.
-use Prim.Native.Nat.{ℕ, suc, ◌+◌, ◌-◌, ◌*◌, ◌^◌, ◌≤◌, ◌<◌}
+use Prim.Native.Nat.{ℕ, suc, ◌+◌, ◌-◌, ◌*◌, ◌^◌, ◌≤◌, ◌<◌, max}
 use mathlib.Core.Path.{◌≡◌, refl, sym, ap, ◌∙◌}
 use mathlib.Core.Logic.{◌⊎◌, inl, inr, ⊎_elim}
 use mathlib.Core.List.{List, [], ◌∷◌, ◌++◌}
@@ -13,7 +13,7 @@ use mir.Val.{Fits}
 use borrow.Author.Rules.{rules}
 use borrow.Author.Tests.{not-true, not-false}
 use Rattle.kind.specs.Class.{is_capital, is_small, is_letter}
-use Rattle.kind.proofs.Tests.{by_test, and_both}
+use Rattle.kind.proofs.Tests.{by_test, and_both, less_or_not}
 use Rattle.util.specs.Run.{least, every}
 use Rattle.util.proofs.Runs.{least_le, not_least}
 use Rattle.mnemonic.specs.Mnemonic.{alike, pairs}
@@ -69,9 +69,18 @@ module _ (small : Bool) (x s : List ℕ) (at from : ℕ) (fits : at + from ≤ l
       pub letters_more' : not r ≡ false → Gone small x s at from (i + 1)
       letters_more' q = inv ∙ common_more (agrees small) x s at i (name_holds' h) (text_holds' h) (sym er ∙ not-false r q)
 
-    pub letters_past' : end ≤ i → i ≡ from + common (agrees small) (drop from x) (drop (at + from) s)
-    letters_past' h =
+    at_end : end ≤ i → i ≡ from + common (agrees small) (drop from x) (drop (at + from) s)
+    at_end h =
         sym (inv ∙ common_past (agrees small) x s at i (⊎_elim inl (λ z. inr (omega (arith, z, fits))) (not_least (length x) (length s - at) i (omega (arith, h, e)))))
+
+  -- a loop that is not left before its end, or begins behind it, ends at the later of the two
+  pub letters_past' : (end : ℕ) → end ≡ least (length x) (length s - at) → (i : ℕ) → Gone small x s at from i → (m : ℕ) → m ≡ max from end → (from ≤ end → i ≤ end) → end ≤ i
+      → m ≡ from + common (agrees small) (drop from x) (drop (at + from) s)
+  letters_past' end e i inv m em f h = go (less_or_not end from)
+    where
+      go : (end < from) ⊎ (from ≤ end) → m ≡ from + common (agrees small) (drop from x) (drop (at + from) s)
+      go (inl k) = let z : m ≡ from = omega arith in z ∙ at_end end e from letters_begin' (omega arith)
+      go (inr k) = let z : m ≡ i = omega (arith, f k) in z ∙ at_end end e i inv h
 
 pub ruleset letters_laws = (rules, at_fits', letters_begin', name_holds', text_holds', place_fits', letters_stop', letters_more', letters_past')
 

@@ -1,25 +1,25 @@
 -- The mnemonic at a place, by letters that it begins with and what is left of it after them.
+use Rattle.std.specs.Prelude.{Result, Ok, Err, Some, None}
 use Prim.Native.Nat.{ℕ, suc, ◌+◌, ◌-◌, ◌≤◌, ◌<◌}
 use mathlib.Core.Path.{◌≡◌, refl, sym, ap, ◌∙◌}
 use mathlib.Core.Logic.{◌⊎◌, inl, inr, ⊎_elim}
 use mathlib.Core.List.{List, [], ◌∷◌, ◌++◌}
-use mathlib.Core.Bool.{Bool, true, false, cond, ◌&&◌, ◌||◌, and-false, false≢true}
+use mathlib.Core.Bool.{Bool, true, false, cond, ◌&&◌, ◌||◌, and-false}
 use native.Mathlib.Omega.{arith}
 use lib.Dec.{eqb, leb, ltb}
 use lib.ListN.{length, get_or, take, drop, length-append, length-drop, drop_of_length-le}
 use lib.Seq.{drop-cons, drop-drop, get_or-drop, length-take-le, take-append-add}
 use borrow.Author.Rules.{rules}
 use borrow.Author.Tests.{leb-false, le-leb, lt-leb, lt-ltb, le-ltb, ltb-true}
-use Rattle.error.specs.{declared.ErrorCode.ErrorCode, declared.ErrorCode.TheVariants.ProgramMnemonicTooLong}
+use Rattle.error.specs.{declared.ErrorCode.ErrorCode}
 use Rattle.kind.specs.Class.{is_letter, in_mnemonic}
 use Rattle.kind.proofs.Tests.{by_test, either, and_left, and_right, and_both, clash, less_or_not}
 use Rattle.util.specs.Run.{run, run_end, stands_at, every}
 use Rattle.util.proofs.Every.{every_weaker, run_within}
 use Rattle.mnemonic.specs.Mnemonic.{matches}
 use Rattle.token.specs.{View.part_of, View.view_of, declared.Token.Token, declared.Token.TheVariants.ProgramMnemonic}
-use Rattle.item.specs.{Follow.token, Follow.refused, Word.star_end, Word.mnemonic, declared.Read.Read}
+use Rattle.item.specs.{Word.star_end, Word.mnemonic}
 use Rattle.spoken.specs.{Spoken.spelled_as, Spoken.spelled_at, Internal.opens, Internal.goes_on_at}
-use Rattle.spoken.specs.declared.Spelled.TheVariants as spelled
 use Rattle.spoken.proofs.Bytes.{letter_in, goes_on_at_lem}
 
 -- the place after the mnemonic at a place
@@ -47,15 +47,15 @@ module _ (s : List ℕ) (at : ℕ) where
   part_is h = rw (le-leb (mnemonic_end s at) (length s) (end_within h), le-leb at (mnemonic_end s at) (omega (arith, h)))
 
   module _ (x : List ℕ) where
-    pub unspelled : (ltb at (mnemonic_end s at) && matches x (part_of s (view_of at (mnemonic_end s at)))) ≡ false → spelled.Not ≡ spelled_at x s at
+    pub unspelled : (ltb at (mnemonic_end s at) && matches x (part_of s (view_of at (mnemonic_end s at)))) ≡ false → None ≡ spelled_at x s at
     unfolding spelled_at mnemonic mnemonic_end
-    unspelled h = by_test (λ (r : Read). spelled.Not ≡ spelled_as x s at r) (leb (mnemonic_end s at - at) 12) (λ _. rw h) (λ _. refl)
+    unspelled h = by_test (λ (r : Result (Token × ℕ) ErrorCode). None ≡ spelled_as x s at r) (leb (mnemonic_end s at - at) 12) (λ _. rw h) (λ _. refl)
 
-    pub too_long : 12 < mnemonic_end s at - at → spelled.Not ≡ spelled_at x s at
+    pub too_long : 12 < mnemonic_end s at - at → None ≡ spelled_at x s at
     unfolding spelled_at mnemonic mnemonic_end
     too_long h = rw (lt-leb (mnemonic_end s at - at) 12 h)
 
-    pub spelled_so : mnemonic_end s at - at ≤ 12 → at < mnemonic_end s at → matches x (part_of s (view_of at (mnemonic_end s at))) ≡ true → spelled.To (mnemonic_end s at) ≡ spelled_at x s at
+    pub spelled_so : mnemonic_end s at - at ≤ 12 → at < mnemonic_end s at → matches x (part_of s (view_of at (mnemonic_end s at))) ≡ true → Some (mnemonic_end s at) ≡ spelled_at x s at
     unfolding spelled_at mnemonic mnemonic_end
     spelled_so h l m = rw (le-leb (mnemonic_end s at - at) 12 h, lt-ltb at (mnemonic_end s at) l, m)
 
@@ -131,14 +131,14 @@ module _ (s : List ℕ) (at : ℕ) (v : List ℕ) (place : ℕ) (text : drop at 
     settled z w ex ew b h =
         ap (λ (t : List ℕ). matches x t) whole ∙ ap (λ (t : List ℕ). matches t (v ++ remainder s place)) ex ∙ ap (λ (t : List ℕ). matches z (v ++ t)) ew ∙ h
 
-    pub no_match : (z w : List ℕ) → x ≡ z → remainder s place ≡ w → matches z (v ++ w) ≡ false → spelled.Not ≡ spelled_at x s at
+    pub no_match : (z w : List ℕ) → x ≡ z → remainder s place ≡ w → matches z (v ++ w) ≡ false → None ≡ spelled_at x s at
     no_match z w ex ew h = unspelled s at x (rw (settled z w ex ew false h) (and-false (ltb at (mnemonic_end s at))))
 
-    pub over_long : 12 < length v + length (remainder s place) → spelled.Not ≡ spelled_at x s at
+    pub over_long : 12 < length v + length (remainder s place) → None ≡ spelled_at x s at
     over_long h = too_long s at x (omega (arith, h, end_is))
 
     pub match : (z w : List ℕ) → x ≡ z → remainder s place ≡ w → matches z (v ++ w) ≡ true → length v + length w ≤ 12
-        → (e : ℕ) → e ≡ at + (length v + length w) → spelled.To e ≡ spelled_at x s at
+        → (e : ℕ) → e ≡ at + (length v + length w) → Some e ≡ spelled_at x s at
     match z w ex ew m h e q =
         let n : length (remainder s place) ≡ length w = ap length ew in
         let l : e ≡ mnemonic_end s at = omega (arith, q, end_is, n) in
@@ -146,13 +146,13 @@ module _ (s : List ℕ) (at : ℕ) (v : List ℕ) (place : ℕ) (text : drop at 
 
 -- the whole mnemonic read and compared
 
-module _ (x s : List ℕ) (at : ℕ) (r : Read) (e : r ≡ mnemonic s at) where
-  pub refused' : (c : ErrorCode) → r ≡ Read.Refused c → spelled.Not ≡ spelled_at x s at
+module _ (x s : List ℕ) (at : ℕ) (r : Result (Token × ℕ) ErrorCode) (e : r ≡ mnemonic s at) where
+  pub refused' : (c : ErrorCode) → r ≡ Err c → None ≡ spelled_at x s at
   unfolding spelled_at
   refused' c q = rw (← e, q)
 
-  module _ (t : Token) (next : ℕ) (q : r ≡ Read.Token t next) where
-    pub no_character' : next ≤ at → spelled.Not ≡ spelled_at x s at
+  module _ (t : Token) (next : ℕ) (q : r ≡ Ok (t, next)) where
+    pub no_character' : next ≤ at → None ≡ spelled_at x s at
     unfolding spelled_at
     no_character' h = rw (← e, q, le-ltb at next h)
 
@@ -160,7 +160,10 @@ module _ (x s : List ℕ) (at : ℕ) (r : Read) (e : r ≡ mnemonic s at) where
       next_is : next ≡ mnemonic_end s at
       unfolding mnemonic mnemonic_end
       next_is =
-          by_test (λ (r : Read). Read.Token t next ≡ r → next ≡ mnemonic_end s at) (leb (mnemonic_end s at - at) 12) (λ _ f. cc)
+          by_test (λ (r : Result (Token × ℕ) ErrorCode). Ok (t, next) ≡ r → next ≡ mnemonic_end s at) (leb (mnemonic_end s at - at) 12)
+          (λ _ f.
+          let z : ◌≡◌ {A = Token × ℕ} (t, next) (ProgramMnemonic (view_of at (mnemonic_end s at)), mnemonic_end s at) = cc in
+          ap (λ (p : Token × ℕ). p.1) z)
           (λ _ f. let z : ◌≡◌ {A = ℕ} 0 1 = cc in absurd (omega arith)) (sym q ∙ e)
 
       pub ends_within' : next ≤ length s
@@ -170,11 +173,11 @@ module _ (x s : List ℕ) (at : ℕ) (r : Read) (e : r ≡ mnemonic s at) where
       part_next = rw next_is (part_is s at (omega (arith, next_is, l)))
 
       module _ (m : Bool) (em : m ≡ matches x (take (next - at) (drop at s))) where
-        pub matched' : m ≡ true → spelled.To next ≡ spelled_at x s at
+        pub matched' : m ≡ true → Some next ≡ spelled_at x s at
         unfolding spelled_at
         matched' k = rw (← e, q, lt-ltb at next l, part_next, ← em, k)
 
-        pub unmatched' : m ≡ false → spelled.Not ≡ spelled_at x s at
+        pub unmatched' : m ≡ false → None ≡ spelled_at x s at
         unfolding spelled_at
         unmatched' k = rw (← e, q, lt-ltb at next l, part_next, ← em, k)
 

@@ -1,9 +1,10 @@
 -- Laws of a name and the mnemonic at a place, as the code meets them.
-use Prim.Native.Nat.{ℕ, suc, ◌+◌, ◌*◌, ◌%◌, ◌^◌, ◌≤◌, ◌<◌}
+use Rattle.std.specs.Prelude.{None}
+use Prim.Native.Nat.{ℕ, suc, ◌+◌, ◌*◌, ◌^◌, ◌≤◌, ◌<◌}
 use mathlib.Core.Path.{◌≡◌, refl, sym, ap, ◌∙◌}
-use mathlib.Core.Logic.{◌⊎◌, inl, inr, ⊎_elim}
+use mathlib.Core.Logic.{⊎_elim}
 use mathlib.Core.List.{List, [], ◌∷◌, ◌++◌, append_assoc, append-nil}
-use mathlib.Core.Bool.{Bool, true, false, not, cond, ◌&&◌, ◌||◌, false≢true}
+use mathlib.Core.Bool.{Bool, true, false, ◌&&◌, ◌||◌}
 use native.Mathlib.Omega.{arith}
 use native.Mathlib.Numerals.{add-one}
 use lib.Dec.{eqb, leb}
@@ -22,7 +23,6 @@ use Rattle.mnemonic.specs.Mnemonic.{pairs, either_case, alike, not_small}
 use Rattle.mnemonic.proofs.{Bytes.capital_not_small, Bytes.small_is_small, Match.apart}
 use Rattle.spoken.specs.Spoken.{is_letter_at, spelled_at}
 use Rattle.spoken.specs.Internal.{agrees, begin_alike, common, departs_at, opens, short_form, long_form, Reached}
-use Rattle.spoken.specs.declared.Spelled.TheVariants as spelled
 use Rattle.spoken.proofs.Bytes.{letter_in, one_letter, agreed_class, agreed_case, agreed_first, agreed_letter, none_apart, letter_at, goes_on_at_lem}
 use Rattle.spoken.proofs.Matching.{alike_after, not_all, departs}
 use Rattle.spoken.proofs.Fronts.{Front, front}
@@ -246,7 +246,7 @@ module _ (x s : List ℕ) (at : ℕ) (size : length x ≤ 12) (alike' : begin_al
                 (λ h _. rw (get_or-eq_default x 0 (leb-true (length x) q h)) (none_apart (get_or s (at + q) 0) letter))
                 (λ h. apart (get_or x q 0) (get_or s (at + q) 0)) (sym ed ∙ kd))
 
-            pub departs' : (d : Bool) → d ≡ departs_at x q (get_or s (at + q) 0) → d ≡ true → spelled.Not ≡ spelled_at x s at
+            pub departs' : (d : Bool) → d ≡ departs_at x q (get_or s (at + q) 0) → d ≡ true → None ≡ spelled_at x s at
             departs' d ed kd =
                 no_match s at y.letters (at + q) y.text y.letters_open x (y.said ++ drop q x) (get_or s (at + q) 0 ∷ remainder s (suc (at + q))) y.name
                 (remainder_some s (at + q) (goes_on_at_lem s (at + q) ∙ letter_in (get_or s (at + q) 0) letter))

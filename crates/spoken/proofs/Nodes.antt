@@ -1,9 +1,10 @@
 -- Laws of the names of nodes and the mnemonic at a place, as the code meets them.
+use Rattle.std.specs.Prelude.{Option, Some, None}
 use Prim.Native.Nat.{ℕ, zero, suc, ◌+◌, ◌-◌, ◌%◌, ◌≤◌, ◌<◌}
 use mathlib.Core.Path.{◌≡◌, refl, sym, ap, ◌∙◌}
 use mathlib.Core.Logic.{◌⊎◌, inl, inr, ⊎_elim}
 use mathlib.Core.List.{List, [], ◌∷◌}
-use mathlib.Core.Bool.{Bool, true, false, not, cond, ◌&&◌, and-false}
+use mathlib.Core.Bool.{Bool, true, false, not, ◌&&◌, and-false}
 use native.Mathlib.Omega.{arith}
 use lib.Dec.{leb, ltb}
 use lib.ListN.{length, get_or, take, drop, get_or-eq_default}
@@ -22,8 +23,7 @@ use Rattle.node.specs.Tree.{name_of}
 use Rattle.branch.specs.Block.{next_child}
 use Rattle.branch.proofs.Blocks.{next_in'}
 use Rattle.spoken.specs.Spoken.{spelled_at, Spells, first_spelled, none_spelled}
-use Rattle.spoken.specs.{Internal.begin_alike, declared.Spelled.Spelled}
-use Rattle.spoken.specs.declared.Spoken.TheVariants as spoken
+use Rattle.spoken.specs.{Internal.begin_alike}
 use Rattle.spoken.proofs.Mnemonics.{mnemonic_end, part_is, end_within, unspelled}
 
 -- a name of no characters is matched by no mnemonic that has one
@@ -32,7 +32,7 @@ unfolding matches compares pairs
 nameless d w = rw (take-nil (numeric_suffix_start []), (stem_some d w).1)
 
 -- a name that begins otherwise than the text, or is empty
-unlike : (x s : List ℕ) (at : ℕ) → ((d : ℕ) (w : List ℕ) → d ≡ get_or s at 0 → matches x (d ∷ w) ≡ false) → Spelled.Not ≡ spelled_at x s at
+unlike : (x s : List ℕ) (at : ℕ) → ((d : ℕ) (w : List ℕ) → d ≡ get_or s at 0 → matches x (d ∷ w) ≡ false) → None ≡ spelled_at x s at
 unlike x s at h = unspelled s at x (go (less_or_not at (mnemonic_end s at)))
   where
     go : (at < mnemonic_end s at) ⊎ (mnemonic_end s at ≤ at) → (ltb at (mnemonic_end s at) && matches x (part_of s (view_of at (mnemonic_end s at)))) ≡ false
@@ -43,11 +43,11 @@ unlike x s at h = unspelled s at x (go (less_or_not at (mnemonic_end s at)))
         let e : part_of s (view_of at (mnemonic_end s at)) ≡ get_or s at 0 ∷ w = part_is s at l ∙ rw (n, drop-cons s at 0 (omega (arith, l, end_within s at l))) refl in
         rw (e, h (get_or s at 0) w refl) (and-false (ltb at (mnemonic_end s at)))
 
-pub empty_not : (x s : List ℕ) (at : ℕ) → length x ≡ 0 → Spelled.Not ≡ spelled_at x s at
+pub empty_not : (x s : List ℕ) (at : ℕ) → length x ≡ 0 → None ≡ spelled_at x s at
 empty_not [] s at h = unlike [] s at (λ d w e. nameless d w)
 empty_not (c ∷ x) s at h = absurd (omega (arith, h))
 
-other_first : (x s : List ℕ) (at : ℕ) → (get_or x 0 0 % 32 ≡ get_or s at 0 % 32 → ⊥) → Spelled.Not ≡ spelled_at x s at
+other_first : (x s : List ℕ) (at : ℕ) → (get_or x 0 0 % 32 ≡ get_or s at 0 % 32 → ⊥) → None ≡ spelled_at x s at
 unfolding begins_otherwise
 other_first [] s at h = empty_not [] s at refl
 other_first (c ∷ x) s at h =
@@ -67,17 +67,17 @@ name_first names w =
 -- the name of one node
 
 module _ (names : List ℕ) (w : ℕ) (s : List ℕ) (at f : ℕ) (ef : f ≡ get_or s at 0) where
-  pub passed_over' : (i : ℕ) → i ≡ initial_in names w → (i % 32 ≡ f % 32 → ⊥) → Spelled.Not ≡ spelled_at (name_in names w) s at
+  pub passed_over' : (i : ℕ) → i ≡ initial_in names w → (i % 32 ≡ f % 32 → ⊥) → None ≡ spelled_at (name_in names w) s at
   passed_over' i ei h =
       ⊎_elim (empty_not (name_in names w) s at)
       (λ e. other_first (name_in names w) s at (λ q. h (ap (λ (k : ℕ). k % 32) (ei ∙ sym e) ∙ q ∙ ap (λ (k : ℕ). k % 32) (sym ef))))
       (name_first names w)
 
   module _ (x : List ℕ) (ex : x ≡ name_in names w) where
-    pub no_name' : length x ≡ 0 → Spelled.Not ≡ spelled_at (name_in names w) s at
+    pub no_name' : length x ≡ 0 → None ≡ spelled_at (name_in names w) s at
     no_name' h = empty_not (name_in names w) s at (rw ex at h)
 
-    pub by_name' : (o : Spelled) → o ≡ spelled_at x s at → o ≡ spelled_at (name_in names w) s at
+    pub by_name' : (o : Option ℕ) → o ≡ spelled_at x s at → o ≡ spelled_at (name_in names w) s at
     by_name' o e = rw ex at e
 
     pub name_begins' : (b : Bool) → b ≡ begin_alike (get_or x 0 0) f → not b ≡ false → begin_alike (get_or x 0 0) (get_or s at 0) ≡ true
@@ -88,10 +88,10 @@ pub ruleset node_laws = (rules, passed_over', no_name', by_name', name_begins')
 -- the nodes of a block
 
 abbrev pub Passed : List ℕ → List ℕ → List ℕ → ℕ → ℕ → ℕ → Type 0
-Passed t names s at from k = Before (λ j. spelled_at (name_of t names j) s at ≡ Spelled.Not) from k
+Passed t names s at from k = Before (λ j. spelled_at (name_of t names j) s at ≡ None) from k
 
 -- past the table there is no name
-past_not : (t names s : List ℕ) (at k : ℕ) → length t ≤ k → spelled_at (name_of t names k) s at ≡ Spelled.Not
+past_not : (t names s : List ℕ) (at k : ℕ) → length t ≤ k → spelled_at (name_of t names k) s at ≡ None
 unfolding name_in name_length
 past_not t names s at k h =
     rw (get_or-eq_default t 0 h)
@@ -99,7 +99,7 @@ past_not t names s at k h =
 
 module _ (t names s : List ℕ) (from to at e : ℕ) where
   pub block_begins' : Passed t names s at from from
-  block_begins' = none_yet (λ j. spelled_at (name_of t names j) s at ≡ Spelled.Not) from
+  block_begins' = none_yet (λ j. spelled_at (name_of t names j) s at ≡ None) from
 
   module _ (h : e ≡ least to (length t)) (k : ℕ) where
     pub block_inside' : k < e → k < length t
@@ -109,20 +109,20 @@ module _ (t names s : List ℕ) (from to at e : ℕ) where
     block_less' l i n = omega (arith, n, next_in' t k (block_inside' l))
 
     module _ (inv : Passed t names s at from k) where
-      pub block_over' : e ≤ k → Spells t names s from to at spoken.None
+      pub block_over' : e ≤ k → Spells t names s from to at None
       block_over' l = none_spelled (λ j low high. go j (less_or_not j k) (not_least to (length t) k (omega (arith, h))) low high)
         where
-          go : (j : ℕ) → (j < k) ⊎ (k ≤ j) → (to ≤ k) ⊎ (length t ≤ k) → from ≤ j → j < to → spelled_at (name_of t names j) s at ≡ Spelled.Not
+          go : (j : ℕ) → (j < k) ⊎ (k ≤ j) → (to ≤ k) ⊎ (length t ≤ k) → from ≤ j → j < to → spelled_at (name_of t names j) s at ≡ None
           go j (inl x) y low high = inv.all j low x
           go j (inr x) (inl y) low high = absurd (omega arith)
           go j (inr x) (inr y) low high = past_not t names s at j (omega arith)
 
-      module _ (l : k < e) (o : Spelled) (q : o ≡ spelled_at (name_of t names k) s at) where
-        pub block_found' : (next : ℕ) → o ≡ Spelled.To next → Spells t names s from to at (spoken.Node k next)
+      module _ (l : k < e) (o : Option ℕ) (q : o ≡ spelled_at (name_of t names k) s at) where
+        pub block_found' : (next : ℕ) → o ≡ Some next → Spells t names s from to at (Some (k, next))
         block_found' next y = first_spelled inv.low (omega (arith, h, (least_le to (length t)).0)) (sym q ∙ y) inv.all
 
-        pub block_more' : o ≡ Spelled.Not → (i : ℕ) → i ≡ next_child t k → Passed t names s at from i
+        pub block_more' : o ≡ None → (i : ℕ) → i ≡ next_child t k → Passed t names s at from i
         block_more' y i n =
-            one_more (λ j. spelled_at (name_of t names j) s at ≡ Spelled.Not) from k inv (sym q ∙ y) i (n ∙ sym (next_in' t k (block_inside' l)))
+            one_more (λ j. spelled_at (name_of t names j) s at ≡ None) from k inv (sym q ∙ y) i (n ∙ sym (next_in' t k (block_inside' l)))
 
 pub ruleset block_laws = (rules, block_begins', block_inside', block_less', block_over', block_found', block_more')

@@ -1,8 +1,9 @@
 -- Laws of what follows the letters of a name and of a mnemonic, as the code meets them.
+use Rattle.std.specs.Prelude.{Option, Some, None}
 use Prim.Native.Nat.{ℕ, suc, ◌+◌, ◌-◌, ◌*◌, ◌^◌, ◌≤◌, ◌<◌}
 use mathlib.Core.Path.{◌≡◌, refl, sym, ap, ◌∙◌}
 use mathlib.Core.List.{List, [], ◌∷◌, ◌++◌, append_assoc, append-nil}
-use mathlib.Core.Logic.{◌⊎◌, inl, inr, ⊎_elim}
+use mathlib.Core.Logic.{⊎_elim}
 use mathlib.Core.Bool.{Bool, true, false, not, cond, ◌&&◌}
 use native.Mathlib.Omega.{arith}
 use native.Mathlib.Numerals.{add-one}
@@ -19,7 +20,7 @@ use Rattle.util.specs.Run.{every, stands_at}
 use Rattle.util.proofs.Every.{every_join, every_weaker}
 use Rattle.mnemonic.specs.Mnemonic.{either_case, matches}
 use Rattle.mnemonic.proofs.Pairs.{long}
-use Rattle.spoken.specs.{Spoken.spelled_at, declared.Spelled.Spelled}
+use Rattle.spoken.specs.{Spoken.spelled_at}
 use Rattle.spoken.specs.Internal.{goes_on_at, one_added, Reached, Counted, Missing}
 use Rattle.spoken.proofs.Bytes.{by_bool, digit_in}
 use Rattle.spoken.proofs.Matching.{letter_left, same_digits, more_digits, other_digit, one_left, digits_left, one_added_lem, more_added}
@@ -68,11 +69,11 @@ module _ (x s : List ℕ) (at from i next : ℕ) (k : Counted x s at from i next
       ∙ rw (length-append (r.said ++ r.left) (k.digits ++ drop i x), length-append r.said r.left, length-append k.digits (drop i x), long either_case r.said r.letters r.same)
 
   -- what follows the letters in the name and in the mnemonic settles it
-  by_not : (z w : List ℕ) → k.digits ++ drop i x ≡ z → k.digits ++ remainder s next ≡ w → matches ((r.said ++ r.left) ++ z) (r.letters ++ w) ≡ false → Spelled.Not ≡ spelled_at x s at
+  by_not : (z w : List ℕ) → k.digits ++ drop i x ≡ z → k.digits ++ remainder s next ≡ w → matches ((r.said ++ r.left) ++ z) (r.letters ++ w) ≡ false → None ≡ spelled_at x s at
   by_not z w ez ew = no_match s at r.letters k.place r.text r.letters_open x ((r.said ++ r.left) ++ z) w (name_is ∙ ap (λ (t : List ℕ). (r.said ++ r.left) ++ t) ez) (left_is ∙ ew)
 
   by_to : (z w : List ℕ) → k.digits ++ drop i x ≡ z → k.digits ++ remainder s next ≡ w → matches ((r.said ++ r.left) ++ z) (r.letters ++ w) ≡ true → length r.letters + length w ≤ 12
-      → (e : ℕ) → e ≡ k.place + length w → Spelled.To e ≡ spelled_at x s at
+      → (e : ℕ) → e ≡ k.place + length w → Some e ≡ spelled_at x s at
   by_to z w ez ew h l e q =
       match s at r.letters k.place r.text r.letters_open x ((r.said ++ r.left) ++ z) w (name_is ∙ ap (λ (t : List ℕ). (r.said ++ r.left) ++ t) ez) (left_is ∙ ew) h l e
       (omega (arith, q, r.place_is))
@@ -88,7 +89,7 @@ module _ (x s : List ℕ) (at from i next : ℕ) (k : Counted x s at from i next
   place_is h = omega (arith, h, k.index_is, k.next_is)
 
   module _ (h : i < length x) where
-    pub letter_left' : from ≡ i → (q : Bool) → q ≡ is_letter (get_or x i 0) → q ≡ true → Spelled.Not ≡ spelled_at x s at
+    pub letter_left' : from ≡ i → (q : Bool) → q ≡ is_letter (get_or x i 0) → q ≡ true → None ≡ spelled_at x s at
     letter_left' f q eq kq =
         by_not (get_or x i 0 ∷ drop (suc i) x) (remainder s k.place) (rw (no_digits f, drop-cons x i 0 h)) (sym left_is)
         (letter_left r.said r.left r.letters r.same r.said_opens r.letters_open (drop from x) r.form (get_or x i 0) (drop (suc i) x)
@@ -99,24 +100,24 @@ module _ (x s : List ℕ) (at from i next : ℕ) (k : Counted x s at from i next
       at_digit = rw (drop-cons x i 0 h)
 
       module _ (n : stands_at (get_or x i 0) s next ≡ false) where
-        other : (k.digits ++ remainder s next ≡ [] → ⊥) → Spelled.Not ≡ spelled_at x s at
+        other : (k.digits ++ remainder s next ≡ [] → ⊥) → None ≡ spelled_at x s at
         other some = go (k.digits ++ remainder s next) refl some
           where
-            go : (w : List ℕ) → k.digits ++ remainder s next ≡ w → (w ≡ [] → ⊥) → Spelled.Not ≡ spelled_at x s at
+            go : (w : List ℕ) → k.digits ++ remainder s next ≡ w → (w ≡ [] → ⊥) → None ≡ spelled_at x s at
             go [] q z = absurd (z refl)
             go (e ∷ b) q z =
                 by_not (k.digits ++ (get_or x i 0 ∷ drop (suc i) x)) (k.digits ++ remainder s next) at_digit refl
                 (other_digit r.said r.left r.letters r.same r.said_opens r.letters_open (drop from x) r.form k.digits (get_or x i 0) (drop (suc i) x) (remainder s next) k.all_digits d
                 (not_first s next (get_or x i 0) d (not_there (get_or x i 0) s next d n)) e b q (not_letter e b q))
 
-        pub some_digits' : from < i → Spelled.Not ≡ spelled_at x s at
+        pub some_digits' : from < i → None ≡ spelled_at x s at
         some_digits' l = other (λ e. omega (arith, l, k.index_is, ap length e, length-append k.digits (remainder s next)))
 
         module _ (l : i ≤ from) (g : Bool) (eg : g ≡ goes_on_at s next) where
           level : from ≡ i
           level = omega (arith, l, k.index_is)
 
-          pub goes_on' : g ≡ true → Spelled.Not ≡ spelled_at x s at
+          pub goes_on' : g ≡ true → None ≡ spelled_at x s at
           goes_on' q =
               other (λ e. omega (arith, ap length e, length-append k.digits (remainder s next), ap length (remainder_some s next (sym eg ∙ q))))
 
@@ -127,18 +128,18 @@ module _ (x s : List ℕ) (at from i next : ℕ) (k : Counted x s at from i next
             digits : k.digits ++ drop i x ≡ get_or x i 0 ∷ drop (suc i) x
             digits = at_digit ∙ rw (no_digits level)
 
-            wrong : (get_or x i 0 ∷ drop (suc i) x ≡ 49 ∷ [] → ⊥) → Spelled.Not ≡ spelled_at x s at
+            wrong : (get_or x i 0 ∷ drop (suc i) x ≡ 49 ∷ [] → ⊥) → None ≡ spelled_at x s at
             wrong w =
                 by_not (get_or x i 0 ∷ drop (suc i) x) [] digits none
                 (digits_left r.said r.left r.letters r.same r.said_opens r.letters_open (drop from x) r.form (get_or x i 0) (drop (suc i) x) d w)
 
-            pub more_left' : (length x ≡ i + 1 → ⊥) → Spelled.Not ≡ spelled_at x s at
+            pub more_left' : (length x ≡ i + 1 → ⊥) → None ≡ spelled_at x s at
             more_left' w = wrong (λ e. w (omega (arith, h, ap length e, length-drop (suc i) x)))
 
-            pub other_left' : (get_or x i 0 ≡ 49 → ⊥) → Spelled.Not ≡ spelled_at x s at
+            pub other_left' : (get_or x i 0 ≡ 49 → ⊥) → None ≡ spelled_at x s at
             other_left' w = wrong (λ e. w (ap (λ (t : List ℕ). get_or t 0 0) e))
 
-            pub one_left' : length x ≡ i + 1 → get_or x i 0 ≡ 49 → Spelled.To next ≡ spelled_at x s at
+            pub one_left' : length x ≡ i + 1 → get_or x i 0 ≡ 49 → Some next ≡ spelled_at x s at
             one_left' w o =
                 by_to (49 ∷ []) [] (digits ∙ rw (o, none_long (drop (suc i) x) (omega (arith, w, length-drop (suc i) x)))) none
                 (one_left r.said r.left r.letters r.same r.said_opens r.letters_open (drop from x) r.form) (omega (arith, name_long, r.size)) next (omega (arith, place_is level))
@@ -192,7 +193,7 @@ module _ (x s : List ℕ) (at from i next : ℕ) (k : Counted x s at from i next
     all_said : k.digits ++ drop i x ≡ k.digits
     all_said = rw (drop_of_length-le x h) (append-nil k.digits)
 
-    pub spelled_to' : not g ≡ true → Spelled.To next ≡ spelled_at x s at
+    pub spelled_to' : not g ≡ true → Some next ≡ spelled_at x s at
     spelled_to' kg =
         by_to x s at from i next k k.digits k.digits all_said (rw (remainder_none s next (sym eg ∙ not-true g kg)) (append-nil k.digits))
         (same_digits r.said r.left r.letters r.same r.said_opens r.letters_open (drop from x) r.form k.digits k.all_digits)
@@ -212,13 +213,13 @@ module _ (x s : List ℕ) (at from i next : ℕ) (k : Counted x s at from i next
       pub next_after' : at ≤ next
       next_after' = omega (arith, k.next_is, k.reached.place_is)
 
-      pub digits_go_on' : from < length x → Spelled.Not ≡ spelled_at x s at
+      pub digits_go_on' : from < length x → None ≡ spelled_at x s at
       digits_go_on' l = go k.digits refl
         where
           r : Reached x s at from k.place
           r = k.reached
 
-          go : (d : List ℕ) → k.digits ≡ d → Spelled.Not ≡ spelled_at x s at
+          go : (d : List ℕ) → k.digits ≡ d → None ≡ spelled_at x s at
           go [] e = absurd (omega (arith, l, h, k.index_is, ap length e))
           go (c ∷ d) e =
               by_not x s at from i next k (c ∷ d) ((c ∷ d) ++ (get_or s next 0 ∷ remainder s (suc next))) (all_said ∙ e) (rw (e, remainder_some s next on))
@@ -231,20 +232,20 @@ module _ (x s : List ℕ) (at from i next : ℕ) (k : Counted x s at from i next
         on_left : k.digits ++ remainder s next ≡ get_or s next 0 ∷ remainder s (suc next)
         on_left = rw (no_digit, remainder_some s next on)
 
-        pub added' : (o : Spelled) → o ≡ one_added s at next → o ≡ spelled_at x s at
+        pub added' : (o : Option ℕ) → o ≡ one_added s at next → o ≡ spelled_at x s at
         unfolding one_added stands_at
         added' o e = e ∙ rw (lt-ltb next (length s) next_in') (one (eqb (get_or s next 0) 49) refl (goes_on_at s (next + 1)) refl (leb (next - at) 11) refl)
           where
             r : Reached x s at from k.place
             r = k.reached
 
-            wrong : (get_or s next 0 ∷ remainder s (suc next) ≡ 49 ∷ [] → ⊥) → Spelled.Not ≡ spelled_at x s at
+            wrong : (get_or s next 0 ∷ remainder s (suc next) ≡ 49 ∷ [] → ⊥) → None ≡ spelled_at x s at
             wrong w =
                 by_not x s at from i next k [] (get_or s next 0 ∷ remainder s (suc next)) (all_said ∙ no_digit) on_left
                 (more_added r.said r.left r.letters r.same r.said_opens r.letters_open (drop from x) r.form (get_or s next 0) (remainder s (suc next)) (not_letter x s at from i next k (get_or s next 0) (remainder s (suc next)) on_left) w)
 
             one : (a : Bool) → eqb (get_or s next 0) 49 ≡ a → (b : Bool) → goes_on_at s (next + 1) ≡ b → (c : Bool) → leb (next - at) 11 ≡ c
-                → cond (a && (not b && c)) (Spelled.To (next + 1)) Spelled.Not ≡ spelled_at x s at
+                → cond (a && (not b && c)) (Some (next + 1)) None ≡ spelled_at x s at
             one false p b q c t = wrong (λ z. clash (eq-eqb (get_or s next 0) 49 (ap (λ (y : List ℕ). get_or y 0 0) z)) p)
             one true p true q c t = wrong (λ z. omega (arith, ap length z, ap length (remainder_some s (suc next) (rw add-one at q))))
             one true p false q false t =

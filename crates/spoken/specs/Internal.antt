@@ -1,11 +1,9 @@
 -- What the private functions promise and rest on. No promise of a public function rests on this.
-use Rattle.std.specs.Prelude.{ℕ, suc, ◌+◌, ◌-◌, ◌%◌, ◌≤◌, ◌<◌, ◌≡◌, List, [], ◌∷◌, ◌++◌, Bool, true, false, cond, not, ◌&&◌, ◌||◌, eqb, leb, length, get_or, drop}
+use Rattle.std.specs.Prelude.{ℕ, suc, ◌+◌, ◌-◌, ◌%◌, ◌≤◌, ◌<◌, ◌≡◌, List, [], ◌∷◌, ◌++◌, Bool, true, false, cond, not, ◌&&◌, ◌||◌, eqb, leb, length, get_or, drop, Option, Some, None}
 use Prim.Native.Char.{code}
 use Rattle.kind.specs.Class.{is_capital, is_small, is_digit, is_letter, in_mnemonic}
 use Rattle.util.specs.Run.{every, stands_at}
 use Rattle.mnemonic.specs.Mnemonic.{either_case, alike, not_small}
-use Rattle.spoken.specs.declared.Spelled.{Spelled}
-use Rattle.spoken.specs.declared.Spelled.TheVariants as spelled
 
 -- c is a letter of the case, and d the same letter in either case
 unfoldable pub agrees : Bool → ℕ → ℕ → Bool
@@ -30,9 +28,9 @@ unfoldable pub departs_at : List ℕ → ℕ → ℕ → Bool
 departs_at x i b = cond (leb (length x) i) true (not (eqb (get_or x i 0 % 32) (b % 32)))
 
 -- a mnemonic that begins at `at` and has come to the place ends after a `1` there, with 12 characters at most
-unfoldable pub one_added : List ℕ → ℕ → ℕ → Spelled
+unfoldable pub one_added : List ℕ → ℕ → ℕ → Option ℕ
 one_added s at place =
-    cond (stands_at (code "1") s place && (not (goes_on_at s (place + 1)) && leb (place - at) 11)) (spelled.To (place + 1)) spelled.Not
+    cond (stands_at (code "1") s place && (not (goes_on_at s (place + 1)) && leb (place - at) 11)) (Some (place + 1)) None
 
 -- a letter or a star, and then letters
 unfoldable pub opens : List ℕ → Bool

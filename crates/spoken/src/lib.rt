@@ -9,24 +9,8 @@ ghost use Rattle.node.specs.Word.{name_in};
 ghost use Rattle.spoken.specs.Spoken.{is_letter_at, spelled_at, Spells};
 ghost use Rattle.spoken.specs.Internal.{agrees, begin_alike, common, goes_on_at, departs_at, one_added, Reached, Missing};
 
-use item::Read;
-
-// Whether the mnemonic at a place spells a name.
-#[derive(Clone, Copy)]
-pub enum Spelled {
-    // it does, and ends before the place
-    To(usize),
-    Not,
-}
-
-// The node that the mnemonic at a place spells, and the place after the mnemonic.
-#[derive(Clone, Copy)]
-pub enum Spoken {
-    Node { node: usize, next: usize },
-    None,
-}
-
-// The first of the nodes of a block that the mnemonic at a place spells.
+// The first of the nodes of a block that the mnemonic at a place spells, and the place after the mnemonic. No index is counted:
+// `branch::next_child` alone knows which child is next.
 pub fn spelled_in(
     nodes: &[u64],
     names: &[u8],
@@ -34,20 +18,19 @@ pub fn spelled_in(
     from: usize,
     to: usize,
     at: usize,
-) -> Spoken
+) -> Option<(usize, usize)>
     ensures { Spells nodes.now names.now s.now from to at result }
 {
     let first = byte_at(s, at);
     let end = util::least(to, nodes.len());
     let mut k = from;
     while k < end {
-        match node_spelled(names, nodes[k], s, at, first) {
-            Spelled::To(next) => return Spoken::Node { node: k, next },
-            Spelled::Not => {}
+        if let Some(next) = node_spelled(names, nodes[k], s, at, first) {
+            return Some((k, next));
         }
         k = branch::next_child(nodes, k);
     }
-    Spoken::None
+    None
 }
 
 // The byte at a place, or 0 past the end of the text.
@@ -61,16 +44,16 @@ fn byte_at(s: &[u8], at: usize) -> u8
 }
 
 // Whether the mnemonic at a place, whose first byte is given, spells the name of a node. Most names are passed over at their first byte.
-fn node_spelled(names: &[u8], word: u64, s: &[u8], at: usize, first: u8) -> Spelled
+fn node_spelled(names: &[u8], word: u64, s: &[u8], at: usize, first: u8) -> Option<usize>
     requires { first ≡ get_or s.now at 0 }
     ensures { result ≡ spelled_at (name_in names.now word) s.now at }
 {
     if node::initial(names, word) % 32 != first % 32 {
-        return Spelled::Not;
+        return None;
     }
     let name = node::name(names, word);
     if name.len() == 0 {
-        return Spelled::Not;
+        return None;
     }
     if item::LONGEST_MNEMONIC < name.len() {
         return matched(name, s, at);
@@ -95,7 +78,7 @@ fn begins_alike(c: u8, d: u8) -> bool
 }
 
 // Whether the mnemonic at a place spells a name that begins with the same character: in its short form, or in its long one.
-fn name_spelled(name: &[u8], s: &[u8], at: usize) -> Spelled
+fn name_spelled(name: &[u8], s: &[u8], at: usize) -> Option<usize>
     requires { (length name.now ≤ 12) × (begin_alike (get_or name.now 0 0) (get_or s.now at 0) ≡ true) }
     ensures { result ≡ spelled_at name.now s.now at }
 {
@@ -108,7 +91,7 @@ fn name_spelled(name: &[u8], s: &[u8], at: usize) -> Spelled
         place = at + q;
         if has_letter(s, place) {
             if departs(name, q, s[place]) {
-                return Spelled::Not;
+                return None;
             }
             return matched(name, s, at);
         }
@@ -125,14 +108,12 @@ fn letters(name: &[u8], s: &[u8], at: usize, from: usize, small: bool) -> usize
     ensures { result ≡ from + common (agrees small) (drop from name.now) (drop (at + from) s.now) }
 {
     let end = util::least(name.len(), s.len() - at);
-    let mut i = from;
-    while i < end {
+    for i in from..end {
         if !is_said(name[i], s[at + i], small) {
             return i;
         }
-        i += 1;
     }
-    i
+    from.max(end)
 }
 
 // Whether a byte is a letter of the case, and another one the same letter in either case.
@@ -169,7 +150,7 @@ fn departs(name: &[u8], at: usize, b: u8) -> bool
 
 // Whether the mnemonic at `at`, whose letters up to `place` are those of the name up to `from`, spells the name: what is left of the name is at
 // the place too, or one of the two is a `1` and the other is empty.
-fn tail(name: &[u8], s: &[u8], at: usize, from: usize, place: usize) -> Spelled
+fn tail(name: &[u8], s: &[u8], at: usize, from: usize, place: usize) -> Option<usize>
     requires { Reached name.now s.now at from place }
     ensures { result ≡ spelled_at name.now s.now at }
 {
@@ -180,7 +161,7 @@ fn tail(name: &[u8], s: &[u8], at: usize, from: usize, place: usize) -> Spelled
         if !kind::is_digit(c) {
             if from == i {
                 if kind::is_letter(c) {
-                    return Spelled::Not;
+                    return None;
                 }
             }
             return matched(name, s, at);
@@ -192,65 +173,65 @@ fn tail(name: &[u8], s: &[u8], at: usize, from: usize, place: usize) -> Spelled
         next += 1;
     }
     if !goes_on_at(s, next) {
-        return Spelled::To(next);
+        return Some(next);
     }
     if from < name.len() {
-        return Spelled::Not;
+        return None;
     }
     added(s, at, next)
 }
 
 // Whether the mnemonic at `at` spells a name that has a digit at `i` and another byte than that at `place`: a `1` may be left out.
-fn left_out(name: &[u8], s: &[u8], at: usize, from: usize, i: usize, place: usize) -> Spelled
+fn left_out(name: &[u8], s: &[u8], at: usize, from: usize, i: usize, place: usize) -> Option<usize>
     requires { Missing name.now s.now at from i place }
     ensures { result ≡ spelled_at name.now s.now at }
 {
     if from < i {
-        return Spelled::Not;
+        return None;
     }
     if goes_on_at(s, place) {
-        return Spelled::Not;
+        return None;
     }
     if name.len() != i + 1 {
-        return Spelled::Not;
+        return None;
     }
     if name[i] == b'1' {
-        return Spelled::To(place);
+        return Some(place);
     }
-    Spelled::Not
+    None
 }
 
 // Whether the mnemonic at `at` ends after a `1` at `place`, which may be added to a name without digits.
-fn added(s: &[u8], at: usize, place: usize) -> Spelled
+fn added(s: &[u8], at: usize, place: usize) -> Option<usize>
     requires { (place < length s.now) × (at ≤ place) }
     ensures { result ≡ one_added s.now at place }
 {
     if s[place] != b'1' {
-        return Spelled::Not;
+        return None;
     }
     if goes_on_at(s, place + 1) {
-        return Spelled::Not;
+        return None;
     }
     if item::LONGEST_MNEMONIC <= place - at {
-        return Spelled::Not;
+        return None;
     }
-    Spelled::To(place + 1)
+    Some(place + 1)
 }
 
 // Whether the mnemonic at a place spells a name, for any name at all: the whole mnemonic is read and compared.
-fn matched(name: &[u8], s: &[u8], at: usize) -> Spelled
+fn matched(name: &[u8], s: &[u8], at: usize) -> Option<usize>
     ensures { result ≡ spelled_at name.now s.now at }
 {
     match item::read_mnemonic(s, at) {
-        Read::Refused(_) => Spelled::Not,
-        Read::Token { token: _, next } => {
+        Err(_) => None,
+        Ok((_, next)) => {
             if next <= at {
-                return Spelled::Not;
+                return None;
             }
             if mnemonic::mnemonic_match(name, &s[at..next]) {
-                return Spelled::To(next);
+                return Some(next);
             }
-            Spelled::Not
+            None
         }
     }
 }

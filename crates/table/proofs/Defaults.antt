@@ -1,4 +1,5 @@
 -- Laws of fault 5, as the code meets them.
+use Rattle.std.specs.Prelude.{Option, Some, None}
 use Prim.Native.Nat.{ℕ, ◌+◌, ◌≤◌, ◌<◌}
 use mathlib.Core.Path.{◌≡◌, sym, ◌∙◌}
 use mathlib.Core.Logic.{◌⊎◌, inl, inr, ⊎_elim}
@@ -16,7 +17,7 @@ use Rattle.node.specs.Word.{is_branch}
 use Rattle.node.specs.Tree.{branch, default, first, count}
 use Rattle.branch.specs.Children.{unsaid_in, PicksIn, first_in, none_in}
 use Rattle.branch.specs.Block.{block_of, children_of, next_child}
-use Rattle.branch.specs.{declared.Block.Block, declared.Pick.Pick}
+use Rattle.branch.specs.{declared.Block.Block}
 use Rattle.branch.proofs.{Blocks.next_in', Picks.covers, Picks.not_past}
 use Rattle.layout.proofs.Blocks.{in_table}
 use Rattle.table.specs.Fault.{TwoDefaults}
@@ -31,34 +32,34 @@ record First (t : List ℕ) (from to d : ℕ) : Type 0 where
   pub inside : d < length t
   pub before : (k : ℕ) → from ≤ k → default t k ≡ true → d ≤ k
 
-first_at : {t : List ℕ} {from to d : ℕ} → PicksIn (unsaid_in t) from to (Pick.Child d) → First t from to d
+first_at : {t : List ℕ} {from to d : ℕ} → PicksIn (unsaid_in t) from to (Some d) → First t from to d
 unfolding unsaid_in
 first_at {t} {from} {d = d} (first_in l u e f) =
     let inside : d < length t = ⊎_elim (λ h. h) (λ h. clash e (not_past t d h)) (less_or_not d (length t)) in
     record { low = l; high = u; is = e; inside = inside; before = λ k h g. ⊎_elim (λ i. clash g (f k h i)) (λ i. i) (less_or_not k d) }
 
-none_at : (t : List ℕ) {from to : ℕ} → PicksIn (unsaid_in t) from to Pick.None → (k : ℕ) → from ≤ k → k < to → default t k ≡ true → ⊥
+none_at : (t : List ℕ) {from to : ℕ} → PicksIn (unsaid_in t) from to None → (k : ℕ) → from ≤ k → k < to → default t k ≡ true → ⊥
 unfolding unsaid_in
 none_at t (none_in f) k l u e = clash e (f k l u)
 
 -- two in a block
 
-module _ (t : List ℕ) (from to : ℕ) (p : Pick) (x : PicksIn (unsaid_in t) from to p) where
-  pub two_none' : p ≡ Pick.None → Decides (TwoDefaultsIn t from to) false
+module _ (t : List ℕ) (from to : ℕ) (p : Option ℕ) (x : PicksIn (unsaid_in t) from to p) where
+  pub two_none' : p ≡ None → Decides (TwoDefaultsIn t from to) false
   two_none' e = fails (λ z. none_at t (rw e at x) z.one z.low (omega (arith, z.order, z.high)) z.default_one)
 
-  module _ (d : ℕ) (e : p ≡ Pick.Child d) (i : ℕ) (n : i ≡ next_child t d) (q : Pick) (y : PicksIn (unsaid_in t) i to q) where
+  module _ (d : ℕ) (e : p ≡ Some d) (i : ℕ) (n : i ≡ next_child t d) (q : Option ℕ) (y : PicksIn (unsaid_in t) i to q) where
     one : First t from to d
     one = first_at (rw e at x)
 
     next : i ≡ d + 1
     next = n ∙ sym (next_in' t d one.inside)
 
-    pub two_one' : q ≡ Pick.None → Decides (TwoDefaultsIn t from to) false
+    pub two_one' : q ≡ None → Decides (TwoDefaultsIn t from to) false
     two_one' f =
         fails (λ z. none_at t (rw f at y) z.other (omega (arith, next, one.before z.one z.low z.default_one, z.order)) z.high z.default_other)
 
-    pub two_two' : (k : ℕ) → q ≡ Pick.Child k → Decides (TwoDefaultsIn t from to) true
+    pub two_two' : (k : ℕ) → q ≡ Some k → Decides (TwoDefaultsIn t from to) true
     two_two' k f =
         let other = first_at (rw f at y) in
         holds
@@ -145,17 +146,17 @@ pub ruleset single_laws = (rules, single_begins', single_end', two_found', singl
 
 -- the default branch of a block that has one default node at most
 
-module _ (t : List ℕ) (from to : ℕ) (p : Pick) (x : PicksIn (unsaid_in t) from to p) where
-  pub inner_none' : p ≡ Pick.None → DefaultBranch t from to Pick.None
+module _ (t : List ℕ) (from to : ℕ) (p : Option ℕ) (x : PicksIn (unsaid_in t) from to p) where
+  pub inner_none' : p ≡ None → DefaultBranch t from to None
   inner_none' e = no_inner (λ k l u b f. none_at t (rw e at x) k l u f)
 
-  module _ (d : ℕ) (e : p ≡ Pick.Child d) where
+  module _ (d : ℕ) (e : p ≡ Some d) where
     pub inner_inside' : d < length t
     inner_inside' = (first_at (rw e at x)).inside
 
     module _ (g : Bool) (f : g ≡ is_branch (get_or t d 0)) where
       -- a default branch would be a second default node
-      pub inner_leaf' : not g ≡ true → OneDefault t from to → DefaultBranch t from to Pick.None
+      pub inner_leaf' : not g ≡ true → OneDefault t from to → DefaultBranch t from to None
       inner_leaf' w ok = no_inner (λ k l u b i. go k (less_or_not d k) u b i ((first_at (rw e at x)).before k l i))
         where
           go : (k : ℕ) → (d < k) ⊎ (k ≤ d) → k < to → branch t k ≡ true → default t k ≡ true → d ≤ k → ⊥
@@ -164,7 +165,7 @@ module _ (t : List ℕ) (from to : ℕ) (p : Pick) (x : PicksIn (unsaid_in t) fr
               ok.one (record { one = d; other = k; low = y.low; order = m; high = u; default_one = y.is; default_other = i })
           go k (inr m) u b i h = let z : k ≡ d = omega arith in clash (rw z at b) (sym f ∙ not-true g w)
 
-      pub inner_found' : not g ≡ false → DefaultBranch t from to (Pick.Child d)
+      pub inner_found' : not g ≡ false → DefaultBranch t from to (Some d)
       inner_found' w = let y = first_at (rw e at x) in inner y.low y.high (sym f ∙ not-false g w) y.is
 
 pub ruleset inner_laws = (rules, inner_inside', inner_none', inner_leaf', inner_found')

@@ -1,4 +1,5 @@
 -- Laws of fault 6, as the code meets them.
+use Rattle.std.specs.Prelude.{Option, Some, None}
 use Prim.Native.Nat.{ℕ, ◌+◌, ◌-◌, ◌≤◌, ◌<◌}
 use mathlib.Core.Path.{◌≡◌, sym, ap, ◌∙◌}
 use mathlib.Core.Logic.{⊎_elim}
@@ -19,7 +20,7 @@ use Rattle.names.proofs.Heads.{name_filled, initials}
 use Rattle.node.specs.Word.{name_length, name_start, name_in, initial_in}
 use Rattle.node.specs.Tree.{branch, default, first, count, name_of, Child, Near, child, under}
 use Rattle.branch.specs.Block.{block_of, children_of, next_child}
-use Rattle.branch.specs.{declared.Block.Block, declared.Pick.Pick}
+use Rattle.branch.specs.{declared.Block.Block}
 use Rattle.branch.proofs.Blocks.{next_in'}
 use Rattle.layout.specs.Layout.{BadName, outside, no_byte}
 use Rattle.table.specs.Internal.{NamedBlock, OneDefault, DefaultBranch, inner, no_inner, DefaultShares, SharesIn, ChildrenShare, BlocksShare, NearShares, SharesAt, children, below, Ready}
@@ -201,32 +202,32 @@ module _ (t names : List ℕ) (ok : Ready t names) (b : ℕ) (m : branch t b ≡
 
   -- what lies below the default branch
 
-  module _ (v : Pick) (y : DefaultBranch t x.from x.to v) where
-    module _ (d : ℕ) (e : v ≡ Pick.Child d) where
+  module _ (v : Option ℕ) (y : DefaultBranch t x.from x.to v) where
+    module _ (d : ℕ) (e : v ≡ Some d) where
       pub goes_down' : branch t d ≡ true
       goes_down' = go (rw e at y)
         where
-          go : DefaultBranch t x.from x.to (Pick.Child d) → branch t d ≡ true
+          go : DefaultBranch t x.from x.to (Some d) → branch t d ≡ true
           go (inner l u h i) = h
 
       pub deeper' : (μ : ℕ) → length t - b ≡ μ → length t - d < μ
       deeper' μ n = go (rw e at y)
         where
-          go : DefaultBranch t x.from x.to (Pick.Child d) → length t - d < μ
+          go : DefaultBranch t x.from x.to (Some d) → length t - d < μ
           go (inner l u h i) = omega (arith, n, after t ok.blocks.no_child_blocks b m, starts_at, l, u, its_block'.within)
 
     module _ (first' end : ℕ) where
-      no_below : v ≡ Pick.None → Decides (DefaultShares t names first' end b) false
+      no_below : v ≡ None → Decides (DefaultShares t names first' end b) false
       no_below e = go (rw e at y)
         where
-          go : DefaultBranch t x.from x.to Pick.None → Decides (DefaultShares t names first' end b) false
+          go : DefaultBranch t x.from x.to None → Decides (DefaultShares t names first' end b) false
           go (no_inner f) =
               fails (λ z. f z.inner (rw starts_at z.inner_child.from) (rw ends_at z.inner_child.below) (near_branch z.shares.near) z.inner_default)
 
-      by_inner : (d : ℕ) → v ≡ Pick.Child d → (u : Bool) → Decides (NearShares t names first' end d) u → Decides (DefaultShares t names first' end b) u
+      by_inner : (d : ℕ) → v ≡ Some d → (u : Bool) → Decides (NearShares t names first' end d) u → Decides (DefaultShares t names first' end b) u
       by_inner d e = go (rw e at y)
         where
-          go : DefaultBranch t x.from x.to (Pick.Child d) → (u : Bool) → Decides (NearShares t names first' end d) u → Decides (DefaultShares t names first' end b) u
+          go : DefaultBranch t x.from x.to (Some d) → (u : Bool) → Decides (NearShares t names first' end d) u → Decides (DefaultShares t names first' end b) u
           go (inner l h i j) u (holds z) = holds (record { inner = d; inner_child = child_of l h; inner_default = j; shares = z })
           go (inner l h i j) u (fails z) =
               fails (λ w. z (rw (one_default t names ok (child_of l h) w.inner_child j w.inner_default) w.shares))
@@ -247,11 +248,11 @@ module _ (t names : List ℕ) (ok : Ready t names) (b : ℕ) (m : branch t b ≡
         go {k} (child z) w = it_fails o q (record { one = k; low = rw starts_at z.from; high = rw ends_at z.below; rest = w })
         go {k} (under {d = j} z e a) w = y (record { inner = j; inner_child = z; inner_default = e; shares = record { one = k; near = a; rest = w } })
 
-    module _ (q : r ≡ false) (v : Pick) (y : DefaultBranch t x.from x.to v) where
-      pub near_none' : v ≡ Pick.None → Decides (NearShares t names first' end b) false
+    module _ (q : r ≡ false) (v : Option ℕ) (y : DefaultBranch t x.from x.to v) where
+      pub near_none' : v ≡ None → Decides (NearShares t names first' end b) false
       near_none' e = near_else q (no_below v y first' end e)
 
-      pub near_down' : (d : ℕ) → v ≡ Pick.Child d → (u : Bool) → Decides (NearShares t names first' end d) u → Decides (NearShares t names first' end b) u
+      pub near_down' : (d : ℕ) → v ≡ Some d → (u : Bool) → Decides (NearShares t names first' end d) u → Decides (NearShares t names first' end b) u
       near_down' d e u z = near_else q (by_inner v y first' end d e u z)
 
   -- a branch itself
@@ -268,11 +269,11 @@ module _ (t names : List ℕ) (ok : Ready t names) (b : ℕ) (m : branch t b ≡
         go (children z) = it_fails o q (rw (ends_at, starts_at) z)
         go (below z) = y (rw (ends_at, starts_at) z)
 
-    module _ (q : r ≡ false) (v : Pick) (y : DefaultBranch t x.from x.to v) where
-      pub at_none' : v ≡ Pick.None → Decides (SharesAt t names b) false
+    module _ (q : r ≡ false) (v : Option ℕ) (y : DefaultBranch t x.from x.to v) where
+      pub at_none' : v ≡ None → Decides (SharesAt t names b) false
       at_none' e = at_else q (no_below v y x.from x.to e)
 
-      pub at_below' : (d : ℕ) → v ≡ Pick.Child d → (u : Bool) → Decides (NearShares t names x.from x.to d) u → Decides (SharesAt t names b) u
+      pub at_below' : (d : ℕ) → v ≡ Some d → (u : Bool) → Decides (NearShares t names x.from x.to d) u → Decides (SharesAt t names b) u
       at_below' d e u z = at_else q (by_inner v y x.from x.to d e u z)
 
 pub ruleset down_laws = (rules, goes_down', deeper')

@@ -1,4 +1,5 @@
 -- Laws of the check: the faults in order, the smallest first.
+use Rattle.std.specs.Prelude.{Ok, Err}
 use Prim.Native.Nat.{ℕ, ◌<◌}
 use mathlib.Core.Path.{◌≡◌}
 use mathlib.Core.List.{List}
@@ -11,7 +12,6 @@ use Rattle.util.proofs.Decided.{it_holds, it_fails}
 use Rattle.layout.specs.Layout.{NodeCount, NodeFields, ChildBlocks, NodeName}
 use Rattle.table.specs.Fault.{TwoDefaults, SharedSpelling, Fault, node_count, node_fields, child_blocks, node_name, two_defaults, shared_spelling, Verdict, accepts, refuses}
 use Rattle.table.specs.Internal.{Blocks, Ready}
-use Rattle.table.specs.declared.Checked.TheVariants as checked
 
 -- there are six faults
 at_most : {t names : List ℕ} {e : ErrorCode} (n : ℕ) → Fault t names e n → n < 7
@@ -36,42 +36,42 @@ module _ (t names : List ℕ) where
   below n f1 f2 f3 f4 f5 f6 e m l (shared_spelling x) = f6 l x
 
   module _ (r-one : Bool) (one : Decides (NodeCount t) r-one) where
-    pub node_count' : r-one ≡ true → Verdict t names (checked.Fault ErrorCode.NodeCount)
+    pub node_count' : r-one ≡ true → Verdict t names (Err ErrorCode.NodeCount)
     node_count' q =
         refuses (node_count (it_holds one q))
         (below 1 (λ l. absurd (omega arith)) (λ l. absurd (omega arith)) (λ l. absurd (omega arith)) (λ l. absurd (omega arith)) (λ l. absurd (omega arith)) (λ l. absurd (omega arith)))
 
     module _ (no_one : r-one ≡ false) (r-two : Bool) (two : Decides (NodeFields t) r-two) where
-      pub node_fields' : r-two ≡ true → Verdict t names (checked.Fault ErrorCode.NodeFields)
+      pub node_fields' : r-two ≡ true → Verdict t names (Err ErrorCode.NodeFields)
       node_fields' q =
           refuses (node_fields (it_holds two q))
           (below 2 (λ l. it_fails one no_one) (λ l. absurd (omega arith)) (λ l. absurd (omega arith)) (λ l. absurd (omega arith)) (λ l. absurd (omega arith)) (λ l. absurd (omega arith)))
 
       module _ (no_two : r-two ≡ false) (r-three : Bool) (three : Decides (ChildBlocks t) r-three) where
-        pub child_blocks' : r-three ≡ true → Verdict t names (checked.Fault ErrorCode.ChildBlocks)
+        pub child_blocks' : r-three ≡ true → Verdict t names (Err ErrorCode.ChildBlocks)
         child_blocks' q =
             refuses (child_blocks (it_holds three q))
             (below 3 (λ l. it_fails one no_one) (λ l. it_fails two no_two) (λ l. absurd (omega arith)) (λ l. absurd (omega arith)) (λ l. absurd (omega arith)) (λ l. absurd (omega arith)))
 
         module _ (no-three : r-three ≡ false) (r-four : Bool) (four : Decides (NodeName t names) r-four) where
-          pub node_name' : r-four ≡ true → Verdict t names (checked.Fault ErrorCode.NodeName)
+          pub node_name' : r-four ≡ true → Verdict t names (Err ErrorCode.NodeName)
           node_name' q =
               refuses (node_name (it_holds four q))
               (below 4 (λ l. it_fails one no_one) (λ l. it_fails two no_two) (λ l. it_fails three no-three) (λ l. absurd (omega arith)) (λ l. absurd (omega arith)) (λ l. absurd (omega arith)))
 
           module _ (no-four : r-four ≡ false) (r-five : Bool) (five : Decides (TwoDefaults t) r-five) where
-            pub two_defaults' : r-five ≡ true → Verdict t names (checked.Fault ErrorCode.TwoDefaults)
+            pub two_defaults' : r-five ≡ true → Verdict t names (Err ErrorCode.TwoDefaults)
             two_defaults' q =
                 refuses (two_defaults (it_holds five q))
                 (below 5 (λ l. it_fails one no_one) (λ l. it_fails two no_two) (λ l. it_fails three no-three) (λ l. it_fails four no-four) (λ l. absurd (omega arith)) (λ l. absurd (omega arith)))
 
             module _ (no-five : r-five ≡ false) (r-six : Bool) (six : Decides (SharedSpelling t names) r-six) where
-              pub shared_spelling' : r-six ≡ true → Verdict t names (checked.Fault ErrorCode.SharedSpelling)
+              pub shared_spelling' : r-six ≡ true → Verdict t names (Err ErrorCode.SharedSpelling)
               shared_spelling' q =
                   refuses (shared_spelling (it_holds six q))
                   (below 6 (λ l. it_fails one no_one) (λ l. it_fails two no_two) (λ l. it_fails three no-three) (λ l. it_fails four no-four) (λ l. it_fails five no-five) (λ l. absurd (omega arith)))
 
-              pub accepted' : r-six ≡ false → Verdict t names checked.Accepted
+              pub accepted' : r-six ≡ false → Verdict t names (Ok tt)
               accepted' q = accepts (record { faultless = λ e n x. below 7 (λ l. it_fails one no_one) (λ l. it_fails two no_two) (λ l. it_fails three no-three) (λ l. it_fails four no-four) (λ l. it_fails five no-five) (λ l. it_fails six q) e n (at_most n x) x })
 
 -- what the later faults are looked for in

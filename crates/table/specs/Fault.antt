@@ -1,12 +1,10 @@
 -- The faults of a node table, and the table that has none.
-use Rattle.std.specs.Prelude.{ℕ, ◌<◌, ◌≡◌, List, true}
+use Rattle.std.specs.Prelude.{ℕ, ◌<◌, ◌≡◌, List, true, Result, Ok, Err}
 use Rattle.error.specs.declared.ErrorCode.{ErrorCode}
 use Rattle.error.specs.declared.ErrorCode.TheVariants as refusal
 use Rattle.name.specs.Share.{Share}
 use Rattle.node.specs.Tree.{default, name_of, Child, Near}
 use Rattle.layout.specs.Layout.{NodeCount, NodeFields, ChildBlocks, NodeName}
-use Rattle.table.specs.declared.Checked.{Checked}
-use Rattle.table.specs.declared.Checked.TheVariants as checked
 
 -- 5: two default children in a branch
 pub record TwoDefaults (t : List ℕ) : Type 0 where
@@ -43,7 +41,7 @@ pub record Accepted (t names : List ℕ) : Type 0 where
   pub faultless : (e : ErrorCode) (n : ℕ) → Fault t names e n → ⊥
 
 -- what the check says of a table: that it is accepted, or the smallest of its faults
-pub data Verdict (t names : List ℕ) : Checked → Type 0 where
-  accepts : Accepted t names → Verdict t names checked.Accepted
+pub data Verdict (t names : List ℕ) : Result Unit ErrorCode → Type 0 where
+  accepts : Accepted t names → Verdict t names (Ok tt)
   refuses : {e : ErrorCode} {n : ℕ} → Fault t names e n → ((d : ErrorCode) (m : ℕ) → m < n → Fault t names d m → ⊥)
-      → Verdict t names (checked.Fault e)
+      → Verdict t names (Err e)

@@ -1,9 +1,7 @@
 -- What the functions of the check look for, each in its part of the table. No promise of a public function rests on this.
-use Rattle.std.specs.Prelude.{ℕ, ◌+◌, ◌≤◌, ◌<◌, ◌≡◌, List, true, length}
+use Rattle.std.specs.Prelude.{ℕ, ◌+◌, ◌≤◌, ◌<◌, ◌≡◌, List, true, length, Option, Some, None}
 use Rattle.name.specs.Share.{shares}
 use Rattle.node.specs.Tree.{branch, default, first, count, name_of, Child, Near}
-use Rattle.branch.specs.declared.Pick.{Pick}
-use Rattle.branch.specs.declared.Pick.TheVariants as pick
 use Rattle.layout.specs.Layout.{ChildBlocks, NodeName}
 use Rattle.table.specs.Fault.{TwoDefaults}
 
@@ -22,9 +20,9 @@ pub record OneDefault (t : List ℕ) (from to : ℕ) : Type 0 where
   pub one : TwoDefaultsIn t from to → ⊥
 
 -- a default branch among the nodes from a place up to an end, or none where there is none
-pub data DefaultBranch (t : List ℕ) (from to : ℕ) : Pick → Type 0 where
-  inner : {d : ℕ} → from ≤ d → d < to → branch t d ≡ true → default t d ≡ true → DefaultBranch t from to (pick.Child d)
-  no_inner : ((k : ℕ) → from ≤ k → k < to → branch t k ≡ true → default t k ≡ true → ⊥) → DefaultBranch t from to pick.None
+pub data DefaultBranch (t : List ℕ) (from to : ℕ) : Option ℕ → Type 0 where
+  inner : {d : ℕ} → from ≤ d → d < to → branch t d ≡ true → default t d ≡ true → DefaultBranch t from to (Some d)
+  no_inner : ((k : ℕ) → from ≤ k → k < to → branch t k ≡ true → default t k ≡ true → ⊥) → DefaultBranch t from to None
 
 -- a node among those from a place up to an end shares a spelling with the name
 pub record SharesIn (t names name : List ℕ) (from to : ℕ) : Type 0 where

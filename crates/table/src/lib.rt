@@ -8,39 +8,31 @@ ghost use Rattle.node.specs.Tree.{branch};
 ghost use Rattle.table.specs.Fault.{TwoDefaults, SharedSpelling, Verdict};
 ghost use Rattle.table.specs.Internal.{TwoDefaultsIn, OneDefault, DefaultBranch, Blocks, Ready, NamedBlock, SharesIn, ChildrenShare, BlocksShare, NearShares, SharesAt};
 
-use branch::Pick;
 use error::ErrorCode;
 
-// What the check says of a table: that it is accepted, or its smallest fault.
-#[derive(Clone, Copy)]
-pub enum Checked {
-    Accepted,
-    Fault(ErrorCode),
-}
-
-// Looks for the faults in their order. A table without any is accepted.
-pub fn check(nodes: &[u64], names: &[u8]) -> Checked
+// Looks for the faults in their order. A table without any is accepted; else it answers the smallest.
+pub fn check(nodes: &[u64], names: &[u8]) -> Result<(), ErrorCode>
     ensures { Verdict nodes.now names.now result }
 {
     if layout::has_wrong_count(nodes) {
-        return Checked::Fault(ErrorCode::NodeCount);
+        return Err(ErrorCode::NodeCount);
     }
     if layout::has_wrong_fields(nodes) {
-        return Checked::Fault(ErrorCode::NodeFields);
+        return Err(ErrorCode::NodeFields);
     }
     if layout::has_wrong_blocks(nodes) {
-        return Checked::Fault(ErrorCode::ChildBlocks);
+        return Err(ErrorCode::ChildBlocks);
     }
     if layout::has_wrong_name(nodes, names) {
-        return Checked::Fault(ErrorCode::NodeName);
+        return Err(ErrorCode::NodeName);
     }
     if has_two_defaults(nodes) {
-        return Checked::Fault(ErrorCode::TwoDefaults);
+        return Err(ErrorCode::TwoDefaults);
     }
     if has_shared_spelling(nodes, names) {
-        return Checked::Fault(ErrorCode::SharedSpelling);
+        return Err(ErrorCode::SharedSpelling);
     }
-    Checked::Accepted
+    Ok(())
 }
 
 // Fault 5: two default children in a branch.
@@ -48,13 +40,11 @@ fn has_two_defaults(nodes: &[u64]) -> bool
     requires { Blocks nodes.now }
     ensures { Decides (TwoDefaults nodes.now) result }
 {
-    let mut b = 0;
-    while b < nodes.len() {
+    for b in 0..nodes.len() {
         let block = branch::children(nodes, b);
         if has_two_defaults_in(nodes, block.from, block.to) {
             return true;
         }
-        b += 1;
     }
     false
 }
@@ -64,10 +54,10 @@ fn has_two_defaults_in(nodes: &[u64], first: usize, end: usize) -> bool
     ensures { Decides (TwoDefaultsIn nodes.now first end) result }
 {
     match branch::default_in(nodes, first, end) {
-        Pick::None => false,
-        Pick::Child(d) => match branch::default_in(nodes, branch::next_child(nodes, d), end) {
-            Pick::None => false,
-            Pick::Child(_) => true,
+        None => false,
+        Some(d) => match branch::default_in(nodes, branch::next_child(nodes, d), end) {
+            None => false,
+            Some(_) => true,
         },
     }
 }
@@ -77,15 +67,9 @@ fn has_shared_spelling(nodes: &[u64], names: &[u8]) -> bool
     requires { Ready nodes.now names.now }
     ensures { Decides (SharedSpelling nodes.now names.now) result }
 {
-    let mut b = 0;
-    while b < nodes.len() {
-        if node::is_branch(nodes[b]) {
-            if shares_at(nodes, names, b) {
-                return true;
-            }
-            b += 1;
-        } else {
-            b += 1;
+    for b in 0..nodes.len() {
+        if node::is_branch(nodes[b]) && shares_at(nodes, names, b) {
+            return true;
         }
     }
     false
@@ -103,8 +87,8 @@ fn shares_at(nodes: &[u64], names: &[u8], b: usize) -> bool
         return true;
     }
     match default_branch(nodes, first, end) {
-        Pick::None => false,
-        Pick::Child(inner) => near_shares(nodes, names, first, end, inner),
+        None => false,
+        Some(inner) => near_shares(nodes, names, first, end, inner),
     }
 }
 
@@ -120,28 +104,28 @@ fn near_shares(nodes: &[u64], names: &[u8], first: usize, end: usize, b: usize) 
         return true;
     }
     match default_branch(nodes, from, to) {
-        Pick::None => false,
-        Pick::Child(inner) => near_shares(nodes, names, first, end, inner),
+        None => false,
+        Some(inner) => near_shares(nodes, names, first, end, inner),
     }
 }
 
 // The default branch in a block.
-fn default_branch(nodes: &[u64], first: usize, end: usize) -> Pick
+fn default_branch(nodes: &[u64], first: usize, end: usize) -> Option<usize>
     requires { OneDefault nodes.now first end }
     ensures { DefaultBranch nodes.now first end result }
 {
     match branch::default_in(nodes, first, end) {
-        Pick::None => Pick::None,
-        Pick::Child(d) => {
+        None => None,
+        Some(d) => {
             if !node::is_branch(nodes[d]) {
-                return Pick::None;
+                return None;
             }
-            Pick::Child(d)
+            Some(d)
         }
     }
 }
 
-// Whether two nodes of a block share a spelling.
+// Whether two nodes of a block share a spelling. Here and below no index is counted: `branch::next_child` alone knows which child is next.
 fn children_share(nodes: &[u64], names: &[u8], first: usize, end: usize) -> bool
     requires { NamedBlock nodes.now names.now first end }
     ensures { Decides (ChildrenShare nodes.now names.now first end) result }
@@ -192,10 +176,8 @@ fn block_shares(nodes: &[u64], names: &[u8], name: &[u8], first: usize, end: usi
             if name::is_spelling_shared(name, node::name(names, word)) {
                 return true;
             }
-            k = branch::next_child(nodes, k);
-        } else {
-            k = branch::next_child(nodes, k);
         }
+        k = branch::next_child(nodes, k);
     }
     false
 }

@@ -1,4 +1,5 @@
 -- The worked message.
+use Rattle.std.specs.Prelude.{Result, Ok}
 use Prim.Native.Nat.{ℕ}
 use mathlib.Core.Path.{◌≡◌, refl, ap, subst, ◌∙◌}
 use mathlib.Core.List.{List, [], ◌∷◌}
@@ -16,7 +17,6 @@ use Rattle.tokenizer.specs.Step.{state_of, taken, refusal, ended, read_as, passe
 use Rattle.tokenizer.specs.declared.State.{State}
 use Rattle.ahead.specs.{Seen.seen_at, declared.Stop.Stop}
 use Rattle.header.specs.Header.{turn_of, behind_colon, keeping, Begins}
-use Rattle.header.specs.declared.Header.{Header}
 use Rattle.units.proofs.HeaderClaims as headers
 use Rattle.routes.specs.{Route.Leads, Heard.Spoken, Worked.nodes, Worked.names}
 use Rattle.routes.specs.Heard as heard
@@ -24,19 +24,20 @@ use Rattle.routes.proofs.RouteClaims as trees
 use Rattle.routes.proofs.Worked.{worked}
 use Rattle.items.specs.Entry.{met_at}
 use Rattle.items.specs.Items as items
-use Rattle.items.specs.declared.Data.TheVariants as found
 use Rattle.unit.specs.Unit.{separated, at_unit, at_end, whole}
 use Rattle.message.specs.Message.{none, next, text}
 use Rattle.together.specs.Example.{example, Worked}
+use Rattle.error.specs.declared.ErrorCode.{ErrorCode}
+use Rattle.header.specs.declared.Header.{Header}
 
 -- what the routes say of a header is what it is answered
 begins_by : (at : State) (rooted : Bool) (words : List (List ℕ)) (query : Bool) (end : Stop) (behind b c kept : ℕ) → branch nodes b ≡ true
     → Spoken example end behind words query at rooted → Leads nodes names (cond rooted 0 b) words c kept
-    → Begins nodes names example b (seen_at example at) (Header.Found c query kept end behind)
+    → Begins nodes names example b (seen_at example at) (Ok (record { command = c; query = query; branch = kept; stop = end; place = behind }))
 begins_by at rooted words query end behind b c kept m x l =
     let z = (headers.claims).some_answer nodes names example b (seen_at example at) in
     let e = (((trees.claims).anywhere nodes names b example at rooted words query end behind z.0 worked.accepted m x z.1).command c kept).1 l in
-    subst (λ (r : Header). Begins nodes names example b (seen_at example at) r) e z.1
+    subst (λ (r : Result Header ErrorCode). Begins nodes names example b (seen_at example at) r) e z.1
 
 -- the headers as they are heard
 
@@ -48,14 +49,14 @@ opens : Spoken example Stop.Separator 26 (ascii "OPEN" ∷ []) false (state_of 2
 unfolding seen_at turn_of behind_colon step by_kind read_as passed colon_before question_before word_at taken refusal ended kind_of mnemonic star_end colon_to follows_colon question_to follows_query part_of run run_end stands_at every is_white_space is_capital is_small is_digit is_letter in_mnemonic is_sign is_quote
 opens = heard.from_branch refl refl (heard.word refl refl (heard.stop refl refl))
 
-identifies : Begins nodes names example 2 (seen_at example (state_of 31 true false)) (Header.Found 1 true 2 Stop.Unit 37)
+identifies : Begins nodes names example 2 (seen_at example (state_of 31 true false)) (Ok (record { command = 1; query = true; branch = 2; stop = Stop.Unit; place = 37 }))
 unfolding seen_at turn_of behind_colon step by_kind read_as passed colon_before question_before word_at taken refusal ended kind_of mnemonic star_end colon_to follows_colon question_to follows_query part_of run run_end stands_at every is_white_space is_capital is_small is_digit is_letter in_mnemonic is_sign is_quote is_branch
 identifies =
     let z = (headers.claims).some_answer nodes names example 2 (seen_at example (state_of 31 true false)) in
     let y =
     (trees.claims).common_anywhere nodes names 2 example (state_of 31 true false) (view_of 31 35) (ascii "*IDN" ∷ []) true Stop.Unit 37 z.0 worked.accepted refl refl refl
     (heard.word refl refl (heard.asked refl refl refl)) z.1 in
-    subst (λ (r : Header). Begins nodes names example 2 (seen_at example (state_of 31 true false)) r) (y.2 ∙ ap (keeping 2) ((y.1.command 1 0).1 worked.identify)) z.1
+    subst (λ (r : Result Header ErrorCode). Begins nodes names example 2 (seen_at example (state_of 31 true false)) r) (y.2 ∙ ap (keeping 2) ((y.1.command 1 0).1 worked.identify)) z.1
 
 asks : Spoken example Stop.Text 43 (ascii "VOLT" ∷ []) true (state_of 37 true false) true
 unfolding seen_at turn_of behind_colon step by_kind read_as passed colon_before question_before word_at taken refusal ended kind_of mnemonic star_end colon_to follows_colon question_to follows_query part_of run run_end stands_at every is_white_space is_capital is_small is_digit is_letter in_mnemonic is_sign is_quote
@@ -63,11 +64,11 @@ asks = heard.from_root refl (heard.word refl refl (heard.asked refl refl refl))
 
 -- the items
 
-first_list : items.Items example (state_of 10 false false) (found.Items 1 21)
+first_list : items.Items example (state_of 10 false false) (Ok (record { count = 1; place = 21 }))
 unfolding met_at step by_kind read_as taken refusal ended kind_of expression_data bracketed in_expression followed ends_data run run_end stands_at is_white_space is_capital is_small is_digit is_letter is_sign is_quote is_ascii
 first_list = items.some refl (items.ended refl)
 
-second_list : items.Items example (state_of 26 false false) (found.Items 1 31)
+second_list : items.Items example (state_of 26 false false) (Ok (record { count = 1; place = 31 }))
 unfolding met_at step by_kind read_as taken refusal ended kind_of expression_data bracketed in_expression followed ends_data run run_end stands_at is_white_space is_capital is_small is_digit is_letter is_sign is_quote is_ascii
 second_list = items.some refl (items.ended refl)
 

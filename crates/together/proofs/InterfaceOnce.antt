@@ -1,14 +1,17 @@
 -- One answer only: what is returned and what is left are determined by what was lent.
+use Rattle.std.specs.Prelude.{Result}
 use Prim.Native.Nat.{ℕ}
 use mathlib.Core.Path.{◌≡◌, refl, sym, ap, ◌∙◌}
 use mathlib.Core.List.{List, [], ◌∷◌}
 use lib.IntN.{ℤ}
-use Rattle.tree.specs.declared.Resolved.{Resolved}
 use Rattle.record.specs.declared.Record.{Record}
-use Rattle.message.specs.{Message.Ending, Message.Walks, declared.Walked.Walked}
+use Rattle.message.specs.{Message.Ending, Message.Walks}
 use Rattle.words.specs.Outcome.{Outcome}
 use Rattle.unit_words.specs.Answers.{resolved_in, walked_in}
 use Rattle.vinderaz.specs.Tree.{Resolving, Walking, no_word, walks}
+use Rattle.error.specs.declared.ErrorCode.{ErrorCode}
+use Rattle.tree.specs.declared.Resolved.{Resolved}
+use Rattle.message.specs.declared.Stopped.{Stopped}
 
 abbrev outcome_of : ℤ → List ℕ → Outcome ℕ
 outcome_of r words = record { code = r; words = words }
@@ -20,7 +23,7 @@ left : {o p : Outcome ℕ} → o ≡ p → o.words ≡ p.words
 left e = ap (λ (x : Outcome ℕ). x.words) e
 
 -- two answers that are the same leave the slots the same
-pub same_resolving : {R Q : Resolved → Type 0} → ((x y : Resolved) → R x → Q y → x ≡ y) → (slots : List ℕ) (r q : ℤ) (after later : List ℕ)
+pub same_resolving : {R Q : Result Resolved ErrorCode → Type 0} → ((x y : Result Resolved ErrorCode) → R x → Q y → x ≡ y) → (slots : List ℕ) (r q : ℤ) (after later : List ℕ)
     → Resolving R slots r after → Resolving Q slots q later → (r ≡ q) × (after ≡ later)
 same_resolving one slots r q after later x y = (codes both, left both)
   where
@@ -29,7 +32,7 @@ same_resolving one slots r q after later x y = (codes both, left both)
 
 -- and so do two walks
 pub same_walking : {M N : List Record → Ending → Type 0}
-    → ((slots : List ℕ) (v w : Walked) (after later : List ℕ) → Walks M slots v after → Walks N slots w later → (v ≡ w) × (after ≡ later))
+    → ((slots : List ℕ) (v w : Result ℕ Stopped) (after later : List ℕ) → Walks M slots v after → Walks N slots w later → (v ≡ w) × (after ≡ later))
     → (slots units : List ℕ) (r q : ℤ) (after later units' units'' : List ℕ) → Walking M slots units r after units' → Walking N slots units q later units''
     → (r ≡ q) × (after ≡ later) × (units' ≡ units'')
 same_walking one slots [] r q after later units' units'' no_word no_word = (refl, refl, refl)

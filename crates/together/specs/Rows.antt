@@ -1,5 +1,5 @@
 -- The rows of the scope that are proved together, in one statement. Row 2 is of a message, 1 and 5 to 9 are of data alone.
-use Rattle.std.specs.Prelude.{◌≡◌, true, false, pos}
+use Rattle.std.specs.Prelude.{◌≡◌, true, false, pos, Ok}
 use Rattle.error.specs.declared.ErrorCode.TheVariants.{ProgramMnemonicTooLong, NumericDataError, InvalidBlockData, SuffixNotAllowed, DataOutOfRange}
 use Rattle.kind.specs.Text.{ascii}
 use Rattle.mnemonic.specs.Mnemonic.{matches}
@@ -9,7 +9,6 @@ use Rattle.tokenizer.specs.Step.{state_of, of_message, of_data}
 use Rattle.tokens.specs.StepClaims.{answer_of, state_behind}
 use Rattle.tokenizer.specs.declared.Answer.TheVariants.{Token, Refused}
 use Rattle.coordinate.specs.Coordinate.{written, pair_of}
-use Rattle.coordinate.specs.declared.Pair.TheVariants as pair
 
 pub record Rows : Type 0 where
   -- `1`, newline, `;`: 1, next `;`. The newline is white space behind the number.
@@ -47,4 +46,4 @@ pub record Rows : Type 0 where
   -- `#H` and 17 F: -222
   pub row_9 : answer_of (ascii "#HFFFFFFFFFFFFFFFFF") of_data ≡ Refused DataOutOfRange
   -- `3!7`: 3, 7
-  pub row_10 : pair_of (written (ascii "3!7")) ≡ pair.Values (pos 3) (pos 7)
+  pub row_10 : pair_of (written (ascii "3!7")) ≡ Ok (pos 3, pos 7)

@@ -1,22 +1,20 @@
 -- The token step: what stands at a place of a program message, IEEE 488.2 7.3 to 7.7, and where the next step begins.
-use Rattle.std.specs.Prelude.{ℕ, ◌+◌, List, Bool, true, false, cond, ◌||◌, eqb, leb, length, get_or}
+use Rattle.std.specs.Prelude.{ℕ, ◌+◌, List, Bool, true, false, cond, leb, length, get_or, Result, Ok, Err}
 use Rattle.error.specs.declared.ErrorCode.{ErrorCode}
 use Rattle.error.specs.declared.ErrorCode.TheVariants.{InvalidCharacter, SyntaxError, CommandHeaderError}
 use Rattle.kind.specs.Class.{is_white_space}
-use Rattle.kind.specs.Kind.{kind_of, newline, blank, star, colon, question, semicolon, comma, hash, quote, parenthesis, other, beyond, underscore, small, capital}
+use Rattle.kind.specs.Kind.{kind_of}
+use Rattle.kind.specs.declared.Kind.{Kind}
+use Rattle.kind.specs.declared.Kind.TheVariants as kind
 use Rattle.util.specs.Run.{run_end}
 use Rattle.token.specs.declared.Token.{Token}
 use Rattle.token.specs.declared.Token.TheVariants.{HeaderMnemonicSeparator, HeaderQuerySuffix, ProgramMessageUnitSeparator, ProgramHeaderSeparator, ProgramDataSeparator}
 use Rattle.item.specs.Word.{mnemonic, character_data}
-use Rattle.item.specs.declared.Read.{Read}
-use Rattle.item.specs.declared.Read.TheVariants as read
 use Rattle.decimal.specs.Decimal.{numeric_data}
 use Rattle.enclosed.specs.String.{string_data}
 use Rattle.enclosed.specs.Expression.{expression_data}
 use Rattle.hash.specs.Block.{hash_data}
 use Rattle.separator.specs.Separator.{newline_to, colon_to, question_to, comma_to}
-use Rattle.separator.specs.declared.Pass.{Pass}
-use Rattle.separator.specs.declared.Pass.TheVariants as pass
 use Rattle.tokenizer.specs.declared.State.{State}
 use Rattle.tokenizer.specs.declared.Answer.TheVariants as answer
 use Rattle.tokenizer.specs.declared.Step.{Step}
@@ -51,23 +49,23 @@ unfoldable pub ended : State → ℕ → Step
 ended st place = record { answer = answer.End; state = state_of place (is_in_header st) (is_in_common st) }
 
 -- what was read at a place, with in-common as it is from there on; a refusal keeps the old one
-unfoldable pub read_as : List ℕ → State → Bool → Read → Step
-read_as s st common (read.Token t next) = taken t next (is_in_header st) common
-read_as s st common (read.Refused e) = refusal s st e
+unfoldable pub read_as : List ℕ → State → Bool → Result (Token × ℕ) ErrorCode → Step
+read_as s st common (Ok (t, next)) = taken t next (is_in_header st) common
+read_as s st common (Err e) = refusal s st e
 
 -- an item of data, or a mnemonic without a star, leaves the flags as they were
-abbrev pub form : List ℕ → State → Read → Step
+abbrev pub form : List ℕ → State → Result (Token × ℕ) ErrorCode → Step
 form s st r = read_as s st (is_in_common st) r
 
 -- a separator as a token, with in-header as it is from there on; a refusal keeps the old one
-unfoldable pub passed : List ℕ → State → Token → Bool → Pass → Step
-passed s st t header (pass.To next) = taken t next header (is_in_common st)
-passed s st t header (pass.Refused e) = refusal s st e
+unfoldable pub passed : List ℕ → State → Token → Bool → Result ℕ ErrorCode → Step
+passed s st t header (Ok next) = taken t next header (is_in_common st)
+passed s st t header (Err e) = refusal s st e
 
 -- a newline as the end
-unfoldable pub ended_by : List ℕ → State → Pass → Step
-ended_by s st (pass.To next) = ended st next
-ended_by s st (pass.Refused e) = refusal s st e
+unfoldable pub ended_by : List ℕ → State → Result ℕ ErrorCode → Step
+ended_by s st (Ok next) = ended st next
+ended_by s st (Err e) = refusal s st e
 
 -- In the next four the place `next` is the one behind the byte, and `separator` says what may stand there.
 
@@ -92,27 +90,30 @@ unfoldable pub word_at : List ℕ → State → ℕ → Step
 word_at s st at = cond (is_in_header st) (form s st (mnemonic s at)) (form s st (character_data s at))
 
 -- a number, a string, or what a `#` begins is refused in a header; an expression is not
-unfoldable pub outside : List ℕ → State → Read → Step
+unfoldable pub outside : List ℕ → State → Result (Token × ℕ) ErrorCode → Step
 outside s st r = cond (is_in_header st) (refusal s st CommandHeaderError) (form s st r)
 
--- The step at a place, by the kind of the byte that stands there; digits, signs and points come last. A semicolon begins a
+-- The step at a place, by the kind of the byte that stands there. A semicolon begins a
 -- message unit (IEEE 488.2 7.4.1), and white space ends a header (7.4.3).
-unfoldable pub by_kind : List ℕ → State → ℕ → ℕ → ℕ → Step
-by_kind s st at b k =
-    cond (eqb k newline) (newline_before s st (at + 1))
-    (cond (eqb k star) (read_as s st true (mnemonic s at))
-    (cond (eqb k colon) (colon_before s st (at + 1))
-    (cond (eqb k question) (question_before s st (at + 1))
-    (cond (eqb k semicolon) (taken ProgramMessageUnitSeparator (run_end is_white_space s (at + 1)) true false)
-    (cond (eqb k comma) (comma_before s st (at + 1))
-    (cond (eqb k blank) (taken ProgramHeaderSeparator (run_end is_white_space s at) false (is_in_common st))
-    (cond (eqb k small || eqb k capital) (word_at s st at)
-    (cond (eqb k parenthesis) (form s st (expression_data s (at + 1)))
-    (cond (eqb k other || eqb k underscore) (refusal s st SyntaxError)
-    (cond (eqb k beyond) (refusal s st InvalidCharacter)
-    (cond (eqb k hash) (outside s st (hash_data s (at + 1)))
-    (cond (eqb k quote) (outside s st (string_data b s (at + 1)))
-    (outside s st (numeric_data s at))))))))))))))
+unfoldable pub by_kind : List ℕ → State → ℕ → ℕ → Kind → Step
+by_kind s st at b kind.Newline = newline_before s st (at + 1)
+by_kind s st at b kind.Star = read_as s st true (mnemonic s at)
+by_kind s st at b kind.Colon = colon_before s st (at + 1)
+by_kind s st at b kind.Question = question_before s st (at + 1)
+by_kind s st at b kind.Semicolon = taken ProgramMessageUnitSeparator (run_end is_white_space s (at + 1)) true false
+by_kind s st at b kind.Comma = comma_before s st (at + 1)
+by_kind s st at b kind.Blank = taken ProgramHeaderSeparator (run_end is_white_space s at) false (is_in_common st)
+by_kind s st at b kind.Small = word_at s st at
+by_kind s st at b kind.Capital = word_at s st at
+by_kind s st at b kind.Parenthesis = form s st (expression_data s (at + 1))
+by_kind s st at b kind.Other = refusal s st SyntaxError
+by_kind s st at b kind.Underscore = refusal s st SyntaxError
+by_kind s st at b kind.Beyond = refusal s st InvalidCharacter
+by_kind s st at b kind.Hash = outside s st (hash_data s (at + 1))
+by_kind s st at b kind.Quote = outside s st (string_data b s (at + 1))
+by_kind s st at b kind.Digit = outside s st (numeric_data s at)
+by_kind s st at b kind.Sign = outside s st (numeric_data s at)
+by_kind s st at b kind.Point = outside s st (numeric_data s at)
 
 -- the next step: End at or past the end of the text, and else by the first byte
 unfoldable pub step : List ℕ → State → Step

@@ -14,7 +14,7 @@ ghost use Rattle.hash.specs.Block.{hash_data};
 
 use error::ErrorCode;
 use item::Read;
-use separator::Pass;
+use kind::Kind;
 use token::Token;
 
 // Where a step begins: its place, and whether that is in a header and in a common command.
@@ -25,6 +25,7 @@ pub struct State {
     pub in_common: bool,
 }
 
+// What a step says, in the form that the scope names for the Option of a Result of the original.
 #[derive(Clone, Copy)]
 pub enum Answer {
     Token(Token),
@@ -54,9 +55,10 @@ pub fn new() -> State
 pub fn new_params() -> State
     ensures { result ≡ of_data }
 {
-    let mut state = new();
-    state.in_header = false;
-    state
+    State {
+        in_header: false,
+        ..new()
+    }
 }
 
 // The next token of a text.
@@ -68,24 +70,22 @@ pub fn next(s: &[u8], state: State) -> Step
         return ended(state);
     }
     let b = s[at];
-    let k = kind::kind(b);
+    let k = kind::kind_of(b);
     match k {
-        kind::NEWLINE => newline(s, at + 1, state),
-        kind::BLANK => blank(s, at, state),
-        kind::STAR => common(s, at, state),
-        kind::COLON => colon(s, at + 1, state),
-        kind::QUESTION => question(s, at + 1, state),
-        kind::SEMICOLON => semicolon(s, at + 1),
-        kind::COMMA => comma(s, at + 1, state),
-        kind::SMALL => word(s, at, state),
-        kind::CAPITAL => word(s, at, state),
-        kind::PARENTHESIS => expression(s, at + 1, state),
-        kind::OTHER => refused(s, state, ErrorCode::SyntaxError),
-        kind::UNDERSCORE => refused(s, state, ErrorCode::SyntaxError),
-        kind::BEYOND => refused(s, state, ErrorCode::InvalidCharacter),
-        kind::HASH => hash(s, at + 1, state),
-        kind::QUOTE => string(s, at + 1, state, b),
-        _ => number(s, at, state),
+        Kind::Newline => newline(s, at + 1, state),
+        Kind::Blank => blank(s, at, state),
+        Kind::Star => common(s, at, state),
+        Kind::Colon => colon(s, at + 1, state),
+        Kind::Question => question(s, at + 1, state),
+        Kind::Semicolon => semicolon(s, at + 1),
+        Kind::Comma => comma(s, at + 1, state),
+        Kind::Small | Kind::Capital => word(s, at, state),
+        Kind::Parenthesis => expression(s, at + 1, state),
+        Kind::Other | Kind::Underscore => refused(s, state, ErrorCode::SyntaxError),
+        Kind::Beyond => refused(s, state, ErrorCode::InvalidCharacter),
+        Kind::Hash => hash(s, at + 1, state),
+        Kind::Quote => string(s, at + 1, state, b),
+        Kind::Digit | Kind::Sign | Kind::Point => number(s, at, state),
     }
 }
 
@@ -93,9 +93,13 @@ pub fn next(s: &[u8], state: State) -> Step
 pub fn next_params(s: &[u8], place: usize) -> Step
     ensures { result ≡ step s.now (state_of place false false) }
 {
-    let mut state = new_params();
-    state.place = place;
-    next(s, state)
+    next(
+        s,
+        State {
+            place,
+            ..new_params()
+        },
+    )
 }
 
 // A newline before a place ends the message.
@@ -103,14 +107,8 @@ fn newline(s: &[u8], next: usize, state: State) -> Step
     ensures { result ≡ newline_before s.now state next }
 {
     match separator::newline(s, next) {
-        Pass::To(place) => {
-            return ended(State {
-                place,
-                in_header: state.in_header,
-                in_common: state.in_common,
-            })
-        }
-        Pass::Refused(e) => return refused(s, state, e),
+        Ok(place) => ended(State { place, ..state }),
+        Err(e) => refused(s, state, e),
     }
 }
 
@@ -238,18 +236,24 @@ fn form(s: &[u8], state: State, read: Read, in_common: bool) -> Step
     ensures { result ≡ read_as s.now state in_common read }
 {
     match read {
-        Read::Token { token, next } => return taken(token, next, state.in_header, in_common),
-        Read::Refused(e) => return refused(s, state, e),
+        Ok((token, next)) => taken(token, next, state.in_header, in_common),
+        Err(e) => refused(s, state, e),
     }
 }
 
 // A separator as a token that leaves in-common as it was.
-fn passed(s: &[u8], state: State, pass: Pass, token: Token, in_header: bool) -> Step
+fn passed(
+    s: &[u8],
+    state: State,
+    pass: Result<usize, ErrorCode>,
+    token: Token,
+    in_header: bool,
+) -> Step
     ensures { result ≡ passed s.now state token in_header pass }
 {
     match pass {
-        Pass::To(next) => return taken(token, next, in_header, state.in_common),
-        Pass::Refused(e) => return refused(s, state, e),
+        Ok(next) => taken(token, next, in_header, state.in_common),
+        Err(e) => refused(s, state, e),
     }
 }
 
@@ -275,8 +279,7 @@ fn refused(s: &[u8], state: State, e: ErrorCode) -> Step
         answer: Answer::Refused(e),
         state: State {
             place: s.len(),
-            in_header: state.in_header,
-            in_common: state.in_common,
+            ..state
         },
     }
 }

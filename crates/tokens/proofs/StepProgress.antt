@@ -1,6 +1,7 @@
 -- Each step inside the text moves the place.
+use Rattle.std.specs.Prelude.{Result, Ok, Err}
 use Prim.Native.Nat.{ℕ, ◌+◌, ◌≤◌, ◌<◌}
-use mathlib.Core.Path.{◌≡◌}
+use mathlib.Core.Path.{◌≡◌, refl}
 use mathlib.Core.Logic.{⊎_elim}
 use mathlib.Core.List.{List}
 use mathlib.Core.Bool.{Bool, true, false, ◌||◌}
@@ -11,20 +12,21 @@ use borrow.Author.Tests.{eqb-true, lt-leb}
 use Rattle.error.specs.declared.ErrorCode.{ErrorCode}
 use Rattle.error.specs.declared.ErrorCode.TheVariants.{InvalidCharacter, SyntaxError, CommandHeaderError}
 use Rattle.kind.specs.Class.{is_white_space, in_mnemonic}
-use Rattle.kind.specs.Kind.{kind_of, newline, blank, star, colon, question, semicolon, comma, hash, quote, parenthesis, other, beyond, underscore, small, capital}
+use Rattle.kind.specs.Kind.{kind_of}
+use Rattle.kind.specs.declared.Kind.{Kind}
+use Rattle.kind.specs.declared.Kind.TheVariants as kind
 use Rattle.kind.proofs.Tests.{by_test, either}
 use Rattle.forms.proofs.OfKind.{blank_white, star_is, small_in, capital_in}
 use Rattle.util.specs.Run.{run_end}
 use Rattle.util.proofs.Runs.{run_from}
 use Rattle.token.specs.declared.Token.{Token}
 use Rattle.token.specs.declared.Token.TheVariants.{HeaderMnemonicSeparator, HeaderQuerySuffix, ProgramMessageUnitSeparator, ProgramHeaderSeparator, ProgramDataSeparator}
-use Rattle.item.specs.{Word.mnemonic, Word.character_data, declared.Read.Read}
+use Rattle.item.specs.{Word.mnemonic, Word.character_data}
 use Rattle.forms.proofs.ItemProgress.{Behind, run_moves, common_behind, header_behind, character_behind, numeric_behind, expression_behind, string_behind, hash_behind, From, newline_ends, newline_from, colon_from, question_from, comma_from}
 use Rattle.decimal.specs.Decimal.{numeric_data}
 use Rattle.enclosed.specs.{String.string_data, Expression.expression_data}
 use Rattle.hash.specs.Block.{hash_data}
 use Rattle.separator.specs.Separator.{newline_to, colon_to, question_to, comma_to}
-use Rattle.separator.specs.declared.Pass.{Pass}
 use Rattle.tokenizer.specs.Step.{is_in_header, is_in_common, taken, refusal, ended, read_as, passed, ended_by, newline_before, colon_before, question_before, comma_before, word_at, outside, by_kind, step}
 use Rattle.tokenizer.specs.{declared.State.State, declared.Step.Step}
 
@@ -36,24 +38,24 @@ module _ (s : List ℕ) (st : State) (P : Step → Type 0)
   abbrev at : ℕ
   at = st.place
 
-  reads : (common : Bool) (r : Read) → Behind at r → P (read_as s st common r)
+  reads : (common : Bool) (r : Result (Token × ℕ) ErrorCode) → Behind at r → P (read_as s st common r)
   unfolding read_as
-  reads common (Read.Token t next) h = takes t next (is_in_header st) common h
-  reads common (Read.Refused e) h = refuses e
+  reads common (Ok (t, next)) h = takes t next (is_in_header st) common h
+  reads common (Err e) h = refuses e
 
-  outside_reads : (r : Read) → Behind at r → P (outside s st r)
+  outside_reads : (r : Result (Token × ℕ) ErrorCode) → Behind at r → P (outside s st r)
   unfolding outside
   outside_reads r h = by_test P (is_in_header st) (λ _. refuses CommandHeaderError) (λ _. reads (is_in_common st) r h)
 
-  passes : (t : Token) (header : Bool) (p : Pass) → From (at + 1) p → P (passed s st t header p)
+  passes : (t : Token) (header : Bool) (p : Result ℕ ErrorCode) → From (at + 1) p → P (passed s st t header p)
   unfolding passed
-  passes t header (Pass.To next) h = takes t next header (is_in_common st) (omega (arith, h))
-  passes t header (Pass.Refused e) h = refuses e
+  passes t header (Ok next) h = takes t next header (is_in_common st) (omega (arith, h))
+  passes t header (Err e) h = refuses e
 
-  finishes : (p : Pass) → From (at + 1) p → From (length s) p → P (ended_by s st p)
+  finishes : (p : Result ℕ ErrorCode) → From (at + 1) p → From (length s) p → P (ended_by s st p)
   unfolding ended_by
-  finishes (Pass.To next) h l = ends next (omega (arith, h)) l
-  finishes (Pass.Refused e) h l = refuses e
+  finishes (Ok next) h l = ends next (omega (arith, h)) l
+  finishes (Err e) h l = refuses e
 
   newline_moves : P (newline_before s st (at + 1))
   unfolding newline_before
@@ -84,35 +86,31 @@ module _ (s : List ℕ) (st : State) (P : Step → Type 0)
         by_test P (is_in_header st) (λ _. reads (is_in_common st) (mnemonic s at) (header_behind s at h e))
         (λ _. reads (is_in_common st) (character_data s at) (character_behind s at h e))
 
-    by_kind_lem : P (by_kind s st at b (kind_of b))
+    next : at < at + 1
+    next = omega arith
+
+    by_kind_lem : (k : Kind) → kind_of b ≡ k → P (by_kind s st at b k)
     unfolding by_kind
-    by_kind_lem =
-        by_test P (eqb k newline) (λ _. newline_moves)
-        (λ _. by_test P (eqb k star) (λ e. reads true (mnemonic s at) (common_behind s at h (eqb-true b 42 (star_is b (eqb-true k star e)))))
-        (λ _. by_test P (eqb k colon) (λ _. colon_moves)
-        (λ _. by_test P (eqb k question) (λ _. question_moves)
-        (λ _. by_test P (eqb k semicolon) (λ _. takes ProgramMessageUnitSeparator (run_end is_white_space s (at + 1)) true false white_moves)
-        (λ _. by_test P (eqb k comma) (λ _. comma_moves)
-        (λ _. by_test P (eqb k blank)
-        (λ e. takes ProgramHeaderSeparator (run_end is_white_space s at) false (is_in_common st) (run_moves is_white_space s at h (blank_white b (eqb-true k blank e))))
-        (λ _. by_test P (eqb k small || eqb k capital) (λ e. word_moves (in_word e))
-        (λ _. by_test P (eqb k parenthesis) (λ _. reads (is_in_common st) (expression_data s (at + 1)) (expression_behind s at (at + 1) next))
-        (λ _. by_test P (eqb k other || eqb k underscore) (λ _. refuses SyntaxError)
-        (λ _. by_test P (eqb k beyond) (λ _. refuses InvalidCharacter)
-        (λ _. by_test P (eqb k hash) (λ _. outside_reads (hash_data s (at + 1)) (hash_behind s at (at + 1) next))
-        (λ _. by_test P (eqb k quote) (λ _. outside_reads (string_data b s (at + 1)) (string_behind s at (at + 1) next b))
-        (λ _. outside_reads (numeric_data s at) (numeric_behind s at))))))))))))))
-      where
-        k : ℕ
-        k = kind_of b
-
-        next : at < at + 1
-        next = omega arith
-
-        in_word : (eqb k small || eqb k capital) ≡ true → in_mnemonic b ≡ true
-        in_word e =
-            ⊎_elim (λ f. small_in b (eqb-true k small f)) (λ f. capital_in b (eqb-true k capital f)) (either (eqb k small) (eqb k capital) e)
+    by_kind_lem kind.Newline e = newline_moves
+    by_kind_lem kind.Star e = reads true (mnemonic s at) (common_behind s at h (eqb-true b 42 (star_is b e)))
+    by_kind_lem kind.Colon e = colon_moves
+    by_kind_lem kind.Question e = question_moves
+    by_kind_lem kind.Semicolon e = takes ProgramMessageUnitSeparator (run_end is_white_space s (at + 1)) true false white_moves
+    by_kind_lem kind.Comma e = comma_moves
+    by_kind_lem kind.Blank e =
+        takes ProgramHeaderSeparator (run_end is_white_space s at) false (is_in_common st) (run_moves is_white_space s at h (blank_white b e))
+    by_kind_lem kind.Small e = word_moves (small_in b e)
+    by_kind_lem kind.Capital e = word_moves (capital_in b e)
+    by_kind_lem kind.Parenthesis e = reads (is_in_common st) (expression_data s (at + 1)) (expression_behind s at (at + 1) next)
+    by_kind_lem kind.Other e = refuses SyntaxError
+    by_kind_lem kind.Underscore e = refuses SyntaxError
+    by_kind_lem kind.Beyond e = refuses InvalidCharacter
+    by_kind_lem kind.Hash e = outside_reads (hash_data s (at + 1)) (hash_behind s at (at + 1) next)
+    by_kind_lem kind.Quote e = outside_reads (string_data b s (at + 1)) (string_behind s at (at + 1) next b)
+    by_kind_lem kind.Digit e = outside_reads (numeric_data s at) (numeric_behind s at)
+    by_kind_lem kind.Sign e = outside_reads (numeric_data s at) (numeric_behind s at)
+    by_kind_lem kind.Point e = outside_reads (numeric_data s at) (numeric_behind s at)
 
     pub each : P (step s st)
     unfolding step
-    each = rw (lt-leb (length s) at h) by_kind_lem
+    each = rw (lt-leb (length s) at h) (by_kind_lem (kind_of b) refl)

@@ -6,66 +6,55 @@ ghost use Rattle.tree.specs.Alone.{alone_with, Resolves, ResolvesAlone};
 
 use ahead::Stop;
 use error::ErrorCode;
-use header::Header;
-use table::Checked;
 
 pub const LONGEST_MESSAGE: usize = 65535;
 
-// The command that a header names, its form and the branch kept; or a refusal.
+// The command that a header names, its form and the branch kept.
 #[derive(Clone, Copy)]
-pub enum Resolved {
-    Command {
-        command: u16,
-        query: bool,
-        branch: usize,
-    },
-    Refused(ErrorCode),
+pub struct Resolved {
+    pub command: u16,
+    pub query: bool,
+    pub branch: usize,
 }
 
 // Resolves one header from a branch of a table, which is checked first.
-pub fn resolve(nodes: &[u64], names: &[u8], start: usize, s: &[u8]) -> Resolved
+pub fn resolve(nodes: &[u64], names: &[u8], start: usize, s: &[u8]) -> Result<Resolved, ErrorCode>
     ensures { ResolvesAlone nodes.now names.now start s.now result }
 {
-    match table::check(nodes, names) {
-        Checked::Fault(e) => Resolved::Refused(e),
-        Checked::Accepted => resolve_accepted(nodes, names, start, s),
-    }
+    table::check(nodes, names)?;
+    resolve_accepted(nodes, names, start, s)
 }
 
 // Resolves one header from a branch of a table that was accepted before. On a table with faults it answers as well, without looking
 // for them.
-pub fn resolve_accepted(nodes: &[u64], names: &[u8], start: usize, s: &[u8]) -> Resolved
+pub fn resolve_accepted(
+    nodes: &[u64],
+    names: &[u8],
+    start: usize,
+    s: &[u8],
+) -> Result<Resolved, ErrorCode>
     ensures { Resolves nodes.now names.now start s.now result }
 {
     if !branch::is_branch(nodes, start) {
-        return Resolved::Refused(ErrorCode::StartIsNoBranch);
+        return Err(ErrorCode::StartIsNoBranch);
     }
     if LONGEST_MESSAGE < s.len() {
-        return Resolved::Refused(ErrorCode::MessageTooLong);
+        return Err(ErrorCode::MessageTooLong);
     }
-    match header::read(nodes, names, s, start, 0) {
-        Header::Refused(e) => Resolved::Refused(e),
-        Header::Found {
-            command,
-            query,
-            branch,
-            stop,
-            place: _,
-        } => alone(command, query, branch, stop),
-    }
+    let header = header::read(nodes, names, s, start, 0)?;
+    alone(header.command, header.query, header.branch, header.stop)
 }
 
 // Behind the header the text ends.
-fn alone(command: u16, query: bool, branch: usize, stop: Stop) -> Resolved
+fn alone(command: u16, query: bool, branch: usize, stop: Stop) -> Result<Resolved, ErrorCode>
     ensures { result ≡ alone_with command query branch stop }
 {
     match stop {
-        Stop::Text => Resolved::Command {
+        Stop::Text => Ok(Resolved {
             command,
             query,
             branch,
-        },
-        Stop::Separator => Resolved::Refused(ErrorCode::SyntaxError),
-        Stop::Unit => Resolved::Refused(ErrorCode::SyntaxError),
+        }),
+        Stop::Separator | Stop::Unit => Err(ErrorCode::SyntaxError),
     }
 }

@@ -1,5 +1,6 @@
 -- A header that is found does not go back in the text, keeps a branch of the table, has a command of 16 bits, and, where the end of the
 -- text ended it, has that end behind it.
+use Rattle.std.specs.Prelude.{Result, Ok, Err}
 use Prim.Native.Nat.{ℕ, ◌≤◌, ◌<◌}
 use mathlib.Core.Path.{◌≡◌, refl, sym, ap, subst}
 use mathlib.Core.Logic.{◌⊎◌, inl, inr, ⊎_elim}
@@ -16,8 +17,10 @@ use Rattle.tokens.proofs.StepClaims.{claims}
 use Rattle.ahead.specs.Seen.{token_ahead, ahead_of, seen_at}
 use Rattle.header.specs.Header.{behind_query, query_answer, answer_at_leaf, leaf_answer, word_behind, behind_colon, at_branch, turn_of, Reads, leaf, refused, said, unsaid, unknown, ended, nowhere, keeping, Begins, no_branch, first_refused, no_header, no_question, from_root, common, from_branch}
 use Rattle.ahead.specs.{declared.Stop.Stop, declared.Ahead.Ahead, declared.Seen.Seen}
-use Rattle.header.specs.{Turn.Turn, declared.Header.Header}
+use Rattle.header.specs.{Turn.Turn}
 use Rattle.header.specs.Turn as turn
+use Rattle.error.specs.declared.ErrorCode.{ErrorCode}
+use Rattle.header.specs.declared.Header.{Header}
 
 -- the node kept is a branch, in a table whose root is one
 abbrev Keeps : List ℕ → ℕ → Type 0
@@ -30,9 +33,9 @@ Over s Stop.Unit p = Unit {0}
 Over s Stop.Separator p = Unit {0}
 
 -- what is so of a header that is found, where the text was read up to the place p
-abbrev pub Sound : List ℕ → List ℕ → ℕ → Header → Type 0
-Sound t s p (Header.Found c query kept x q) = (p ≤ q) × Keeps t kept × (c < 65536) × Over s x q
-Sound t s p (Header.Refused e) = Unit {0}
+abbrev pub Sound : List ℕ → List ℕ → ℕ → Result Header ErrorCode → Type 0
+Sound t s p (Ok h) = (p ≤ h.place) × Keeps t h.branch × (h.command < 65536) × Over s h.stop h.place
+Sound t s p (Err e) = Unit {0}
 
 -- what is seen was seen in the text
 abbrev Genuine : List ℕ → State → Ahead → Type 0
@@ -85,9 +88,9 @@ genuine_at s st = go (step s st).answer refl
         at_end (inr l) = l
     go (Answer.Refused c) e = tt
 
-sooner : (t s : List ℕ) (p q : ℕ) (r : Header) → p ≤ q → Sound t s q r → Sound t s p r
-sooner t s p q (Header.Found c query kept x z) l h = (let k = h.0 in omega (arith, l, k), h.1, h.2, h.3)
-sooner t s p q (Header.Refused e) l h = tt
+sooner : (t s : List ℕ) (p q : ℕ) (r : Result Header ErrorCode) → p ≤ q → Sound t s q r → Sound t s p r
+sooner t s p q (Ok r) l h = (let k = h.0 in omega (arith, l, k), h.1, h.2, h.3)
+sooner t s p q (Err e) l h = tt
 
 module _ (t s : List ℕ) (c h : ℕ) (b : Keeps t h) (f : command_number c < 65536) where
   query_sound : (p : ℕ) (seen : Seen) → p ≤ seen.state.place → Genuine s seen.state seen.ahead → Sound t s p (query_answer c h seen)
@@ -142,7 +145,7 @@ unfolding command_number
 command_fits w = omega arith
 
 module _ {t names s : List ℕ} where
-  pub reads_sound : {h n : ℕ} {seen : Seen} {r : Header} → Keeps t h → Genuine s seen.state seen.ahead → Reads t names s h n seen r → Sound t s seen.state.place r
+  pub reads_sound : {h n : ℕ} {seen : Seen} {r : Result Header ErrorCode} → Keeps t h → Genuine s seen.state seen.ahead → Reads t names s h n seen r → Sound t s seen.state.place r
   reads_sound {h} {n} {seen} b g (leaf m) = leaf_sound t s (get_or t n 0) h b (command_fits (get_or t n 0)) seen g
   reads_sound b g (refused m e) = tt
   reads_sound {h} {n} {seen} {r} b g (said {st = st} m e k x) =
@@ -152,15 +155,15 @@ module _ {t names s : List ℕ} where
   reads_sound b g (ended m e d x) = reads_sound b g x
   reads_sound b g (nowhere m e d) = tt
 
-keeping_sound : (t s : List ℕ) (p b : ℕ) (r : Header) → branch t b ≡ true → Sound t s p r → Sound t s p (keeping b r)
-keeping_sound t s p b (Header.Found c query kept x z) m h = (h.0, (λ _. m), h.2, h.3)
-keeping_sound t s p b (Header.Refused e) m h = tt
+keeping_sound : (t s : List ℕ) (p b : ℕ) (r : Result Header ErrorCode) → branch t b ≡ true → Sound t s p r → Sound t s p (keeping b r)
+keeping_sound t s p b (Ok r) m h = (h.0, (λ _. m), h.2, h.3)
+keeping_sound t s p b (Err e) m h = tt
 
 -- a word is no end of the text
 word_genuine : (s : List ℕ) (seen : Seen) {w : View} → seen.ahead ≡ Ahead.Word w → Genuine s seen.state seen.ahead
 word_genuine s seen e = subst (Genuine s seen.state) (sym e) tt
 
-pub begins_sound : {t names s : List ℕ} {b : ℕ} {seen : Seen} {r : Header} → Begins t names s b seen r → Sound t s seen.state.place r
+pub begins_sound : {t names s : List ℕ} {b : ℕ} {seen : Seen} {r : Result Header ErrorCode} → Begins t names s b seen r → Sound t s seen.state.place r
 begins_sound (no_branch m) = tt
 begins_sound (first_refused m e) = tt
 begins_sound (no_header m e) = tt

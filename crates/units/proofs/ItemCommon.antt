@@ -1,24 +1,27 @@
 -- Out of a header the token step answers the same whether the header was a common command's or not, and so do the data.
+use Rattle.std.specs.Prelude.{Result, Ok, Err}
 use Prim.Native.Nat.{ℕ, ◌+◌}
 use mathlib.Core.Path.{◌≡◌, refl, ap, ◌∙◌, subst}
 use mathlib.Core.List.{List}
 use mathlib.Core.Bool.{Bool, true, false, cond, ◌||◌}
 use lib.Dec.{eqb, leb}
 use lib.ListN.{length, get_or}
-use Rattle.kind.specs.Kind.{kind_of, newline, blank, star, colon, question, semicolon, comma, hash, quote, parenthesis, other, beyond, underscore, small, capital}
+use Rattle.kind.specs.Kind.{kind_of}
+use Rattle.kind.specs.declared.Kind.{Kind}
+use Rattle.kind.specs.declared.Kind.TheVariants as kind
 use Rattle.token.specs.declared.Token.{Token}
-use Rattle.item.specs.{Word.mnemonic, Word.character_data, declared.Read.Read}
+use Rattle.item.specs.{Word.mnemonic, Word.character_data}
 use Rattle.decimal.specs.Decimal.{numeric_data}
 use Rattle.enclosed.specs.{String.string_data, Expression.expression_data}
 use Rattle.hash.specs.Block.{hash_data}
 use Rattle.separator.specs.Separator.{newline_to, colon_to, question_to, comma_to}
-use Rattle.separator.specs.declared.Pass.{Pass}
 use Rattle.tokenizer.specs.Step.{state_of, taken, refusal, ended, read_as, passed, ended_by, newline_before, colon_before, question_before, comma_before, word_at, outside, by_kind, step}
 use Rattle.tokenizer.specs.{declared.Answer.Answer, declared.State.State, declared.Step.Step}
 use Rattle.items.specs.Entry.{Entry, Met, entry_of, met_with, met_at}
 use Rattle.items.specs.Entry as entry
 use Rattle.items.specs.Items as items
 use Rattle.items.specs.declared.Data.{Data}
+use Rattle.error.specs.declared.ErrorCode.{ErrorCode}
 
 -- two states at one place out of a header, whether in a common command or not
 pub data SamePlace : State → State → Type 0 where
@@ -52,38 +55,41 @@ either_way false a b = b
 
 module _ (s : List ℕ) where
   module _ (p : ℕ) (c d : Bool) where
-    reads : (f g : Bool) (r : Read) → Alike (read_as s (state_of p false c) f r) (read_as s (state_of p false d) g r)
+    reads : (f g : Bool) (r : Result (Token × ℕ) ErrorCode) → Alike (read_as s (state_of p false c) f r) (read_as s (state_of p false d) g r)
     unfolding read_as taken refusal
-    reads f g (Read.Token t next) = alike _ next f g
-    reads f g (Read.Refused e) = alike _ (length s) c d
+    reads f g (Ok (t, next)) = alike _ next f g
+    reads f g (Err e) = alike _ (length s) c d
 
-    passes : (t : Token) (r : Pass) → Alike (passed s (state_of p false c) t false r) (passed s (state_of p false d) t false r)
+    passes : (t : Token) (r : Result ℕ ErrorCode) → Alike (passed s (state_of p false c) t false r) (passed s (state_of p false d) t false r)
     unfolding passed taken refusal
-    passes t (Pass.To next) = alike _ next c d
-    passes t (Pass.Refused e) = alike _ (length s) c d
+    passes t (Ok next) = alike _ next c d
+    passes t (Err e) = alike _ (length s) c d
 
-    ends : (r : Pass) → Alike (ended_by s (state_of p false c) r) (ended_by s (state_of p false d) r)
+    ends : (r : Result ℕ ErrorCode) → Alike (ended_by s (state_of p false c) r) (ended_by s (state_of p false d) r)
     unfolding ended_by ended refusal
-    ends (Pass.To next) = alike _ next c d
-    ends (Pass.Refused e) = alike _ (length s) c d
+    ends (Ok next) = alike _ next c d
+    ends (Err e) = alike _ (length s) c d
 
-    by_kind_lem : (b k : ℕ) → Alike (by_kind s (state_of p false c) p b k) (by_kind s (state_of p false d) p b k)
+    by_kind_lem : (b : ℕ) (k : Kind) → Alike (by_kind s (state_of p false c) p b k) (by_kind s (state_of p false d) p b k)
     unfolding by_kind newline_before colon_before question_before comma_before colon_to word_at outside taken refusal
-    by_kind_lem b k =
-        either_way (eqb k newline) (ends (newline_to s (p + 1)))
-        (either_way (eqb k star) (reads true true (mnemonic s p))
-        (either_way (eqb k colon) (passes _ _)
-        (either_way (eqb k question) (passes _ (question_to s (p + 1) false))
-        (either_way (eqb k semicolon) (record { entry_same = refl; after = refl })
-        (either_way (eqb k comma) (passes _ (comma_to s (p + 1) false))
-        (either_way (eqb k blank) (alike _ _ c d)
-        (either_way (eqb k small || eqb k capital) (reads c d (character_data s p))
-        (either_way (eqb k parenthesis) (reads c d (expression_data s (p + 1)))
-        (either_way (eqb k other || eqb k underscore) (alike _ (length s) c d)
-        (either_way (eqb k beyond) (alike _ (length s) c d)
-        (either_way (eqb k hash) (reads c d (hash_data s (p + 1)))
-        (either_way (eqb k quote) (reads c d (string_data b s (p + 1)))
-        (reads c d (numeric_data s p))))))))))))))
+    by_kind_lem b kind.Newline = ends (newline_to s (p + 1))
+    by_kind_lem b kind.Star = reads true true (mnemonic s p)
+    by_kind_lem b kind.Colon = passes _ _
+    by_kind_lem b kind.Question = passes _ (question_to s (p + 1) false)
+    by_kind_lem b kind.Semicolon = record { entry_same = refl; after = refl }
+    by_kind_lem b kind.Comma = passes _ (comma_to s (p + 1) false)
+    by_kind_lem b kind.Blank = alike _ _ c d
+    by_kind_lem b kind.Small = reads c d (character_data s p)
+    by_kind_lem b kind.Capital = reads c d (character_data s p)
+    by_kind_lem b kind.Parenthesis = reads c d (expression_data s (p + 1))
+    by_kind_lem b kind.Other = alike _ (length s) c d
+    by_kind_lem b kind.Underscore = alike _ (length s) c d
+    by_kind_lem b kind.Beyond = alike _ (length s) c d
+    by_kind_lem b kind.Hash = reads c d (hash_data s (p + 1))
+    by_kind_lem b kind.Quote = reads c d (string_data b s (p + 1))
+    by_kind_lem b kind.Digit = reads c d (numeric_data s p)
+    by_kind_lem b kind.Sign = reads c d (numeric_data s p)
+    by_kind_lem b kind.Point = reads c d (numeric_data s p)
 
     steps : Alike (step s (state_of p false c)) (step s (state_of p false d))
     unfolding step ended
@@ -97,7 +103,7 @@ module _ (s : List ℕ) where
       let h = steps p c d in
       (y.state, ap (λ v. met_with v y.state) (h.entry_same ∙ ap (λ (m : Met). m.entry) e), subst (λ (m : Met). After m.entry m.state y.state) e h.after)
 
-  joined : {n : ℕ} {st other : State} {r : Data} → SamePlace st other → items.Joined s n st r → items.Joined s n other r
+  joined : {n : ℕ} {st other : State} {r : Result Data ErrorCode} → SamePlace st other → items.Joined s n st r → items.Joined s n other r
   joined a (items.ended e) = let m = met a e in rw m.2 (items.ended m.1)
   joined a (items.more e g j) = let m = met a e in let k = met m.2 g in items.more m.1 k.1 (joined k.2 j)
   joined a (items.missing e g) = let m = met a e in items.missing m.1 (met m.2 g).1
@@ -106,7 +112,7 @@ module _ (s : List ℕ) where
   joined a (items.refused e) = items.refused (met a e).1
   joined a (items.refused_item e g) = let m = met a e in items.refused_item m.1 (met m.2 g).1
 
-  pub same_items : {st other : State} {r : Data} → SamePlace st other → items.Items s st r → items.Items s other r
+  pub same_items : {st other : State} {r : Result Data ErrorCode} → SamePlace st other → items.Items s st r → items.Items s other r
   same_items a (items.none e) = let m = met a e in rw m.2 (items.none m.1)
   same_items a (items.some e j) = let m = met a e in items.some m.1 (joined m.2 j)
   same_items a (items.first_missing e) = items.first_missing (met a e).1

@@ -1,5 +1,5 @@
 -- Laws of runs, over any class p, as a loop that passes over one meets them.
-use Prim.Native.Nat.{ℕ, suc, ◌+◌, ◌≤◌, ◌<◌}
+use Prim.Native.Nat.{ℕ, suc, ◌+◌, ◌≤◌, ◌<◌, max}
 use mathlib.Core.Path.{◌≡◌, refl, sym, ◌∙◌}
 use mathlib.Core.Logic.{◌⊎◌, inl, inr}
 use mathlib.Core.List.{List, [], ◌∷◌}
@@ -12,7 +12,12 @@ use borrow.Author.Rules.{rules}
 use lib.Dec.{eqb, ltb}
 use borrow.Author.Tests.{not-true, not-false, ltb-true, ltb-false, lt-ltb, le-ltb}
 use Rattle.kind.specs.Class.{is_sign}
+use Rattle.kind.proofs.Tests.{less_or_not}
 use Rattle.util.specs.Run.{run, run_end, sign_end, stands_at, least}
+
+run_behind : (p : ℕ → Bool) (s : List ℕ) (i : ℕ) → length s ≤ i → run_end p s i ≡ i
+unfolding run_end run
+run_behind p s i h = rw (drop_of_length-le s) (omega arith)
 
 module _ (p : ℕ → Bool) (s : List ℕ) (i : ℕ) where
   pub run_past : length s ≤ i → run_end p s i ≡ i
@@ -26,6 +31,14 @@ module _ (p : ℕ → Bool) (s : List ℕ) (i : ℕ) where
   pub run_more : i < length s → p (get_or s i 0) ≡ true → run_end p s i ≡ run_end p s (i + 1)
   unfolding run_end run
   run_more h e = rw (drop-cons s i 0, e, add-one) (omega arith)
+
+  -- a loop over the places from `at` on that is not left before the end of the text, or begins behind it, ends at the later of the two
+  pub ends_at : (at m : ℕ) → m ≡ max at (length s) → (at ≤ length s → i ≤ length s) → length s ≤ i → run_end p s at ≡ run_end p s i → m ≡ i
+  ends_at at m e f h inv = go (less_or_not (length s) at)
+    where
+      go : (length s < at) ⊎ (at ≤ length s) → m ≡ i
+      go (inl k) = let z : run_end p s at ≡ at = run_behind p s at (omega arith) in omega (arith, z, run_past h)
+      go (inr k) = omega (arith, f k)
 
 -- behind a run there is none of its class
 none_left : (p : ℕ → Bool) (t : List ℕ) → run p (drop (run p t) t) ≡ 0

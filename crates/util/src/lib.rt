@@ -5,46 +5,39 @@ ghost use Rattle.std.specs.Prelude.{◌≡◌};
 ghost use Rattle.kind.specs.Class.{is_white_space, is_digit, is_small};
 ghost use Rattle.util.specs.Run.{run_end, sign_end, stands_at, least};
 
+use kind::{Class, Digit, Small, WhiteSpace};
+
+// The place behind the characters of a class that begin at a place.
+pub fn run_end<C: Class>(s: &[u8], at: usize) -> usize
+    ensures { result ≡ run_end C.class s.now at }
+{
+    for i in at..s.len() {
+        if !C::has(s[i]) {
+            return i;
+        }
+    }
+    at.max(s.len())
+}
+
 // The place behind the white space that begins at a place.
 pub fn skip_ws(s: &[u8], at: usize) -> usize
     ensures { result ≡ run_end is_white_space s.now at }
 {
-    let mut next = at;
-    while next < s.len() {
-        if !kind::is_white_space(s[next]) {
-            return next;
-        }
-        next += 1;
-    }
-    next
+    run_end::<WhiteSpace>(s, at)
 }
 
 // The place behind the digits that begin at a place.
 pub fn skip_digits(s: &[u8], at: usize) -> usize
     ensures { result ≡ run_end is_digit s.now at }
 {
-    let mut end = at;
-    while end < s.len() {
-        if !kind::is_digit(s[end]) {
-            return end;
-        }
-        end += 1;
-    }
-    end
+    run_end::<Digit>(s, at)
 }
 
 // The place behind the small letters that begin at a place.
 pub fn skip_small(s: &[u8], at: usize) -> usize
     ensures { result ≡ run_end is_small s.now at }
 {
-    let mut end = at;
-    while end < s.len() {
-        if !kind::is_small(s[end]) {
-            return end;
-        }
-        end += 1;
-    }
-    end
+    run_end::<Small>(s, at)
 }
 
 // The place behind a sign, where one stands at the place.
@@ -64,18 +57,12 @@ pub fn skip_sign(s: &[u8], at: usize) -> usize
 pub fn stands(s: &[u8], at: usize, b: u8) -> bool
     ensures { result ≡ stands_at b s.now at }
 {
-    if at < s.len() {
-        return s[at] == b;
-    }
-    false
+    at < s.len() && s[at] == b
 }
 
 // The smaller of two numbers.
 pub fn least(a: usize, b: usize) -> usize
     ensures { result ≡ least a b }
 {
-    if a < b {
-        return a;
-    }
-    b
+    a.min(b)
 }

@@ -1,4 +1,5 @@
 -- Laws of the steps over words, as the code meets them.
+use Rattle.std.specs.Prelude.{Option, Some, None}
 use Prim.Native.Nat.{ℕ, ◌<◌}
 use mathlib.Core.Path.{◌≡◌, ◌∙◌}
 use mathlib.Core.List.{List}
@@ -12,7 +13,6 @@ use Rattle.tokenizer.specs.declared.Step as token-step
 use Rattle.channel_list.specs.List as channels
 use Rattle.channel_list.specs.declared.State as channel-state
 use Rattle.channel_list.specs.declared.Step as channel-step
-use Rattle.channel_list.specs.declared.Opened.{Opened}
 use Rattle.numeric_list.specs.List as numbers
 use Rattle.numeric_list.specs.declared.State as numeric-state
 use Rattle.numeric_list.specs.declared.Step as numeric-step
@@ -25,7 +25,7 @@ module _ (s words : List ℕ) (o : Outcome ℕ) where
       → o ≡ token_left words (tokens.step s (token_state words))
   token' st x es ex e = e ∙ rw (ex, es)
 
-  pub open' : (x : Opened) → x ≡ channels.opened s → o ≡ opened_left words (length s) x → o ≡ opened_left words (length s) (channels.opened s)
+  pub open' : (x : Option channel-state.State) → x ≡ channels.opened s → o ≡ opened_left words (length s) x → o ≡ opened_left words (length s) (channels.opened s)
   open' x ex e = e ∙ rw ex
 
   pub channel' : (st : channel-state.State) (x : channel-step.Step) → st ≡ channel_state words → x ≡ channels.step s st → o ≡ channel_left words x
@@ -51,10 +51,10 @@ module _ (words : List ℕ) (n : ℤ) (h : length words < 8) (en : n ≡ code_of
   unfolding numeric_left
   no_number' x = no_room' words _ _ _ _ n h en
 
-  pub no_list' : (end : ℕ) (x : Opened) → record { code = n; words = words } ≡ opened_left words end x
+  pub no_list' : (end : ℕ) (x : Option channel-state.State) → record { code = n; words = words } ≡ opened_left words end x
   unfolding opened_left
-  no_list' end (Opened.List st) = no_room' words _ _ _ _ n h en
-  no_list' end Opened.NotOne = no_room' words _ _ _ _ n h en
+  no_list' end (Some st) = no_room' words _ _ _ _ n h en
+  no_list' end None = no_room' words _ _ _ _ n h en
 
 pub ruleset token_laws = (rules, no_token', token')
 

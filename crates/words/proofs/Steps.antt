@@ -1,4 +1,5 @@
 -- Laws of the steps, as the code meets them.
+use Rattle.std.specs.Prelude.{Option, Some, None}
 use Prim.Native.Nat.{ℕ}
 use mathlib.Core.Path.{◌≡◌, sym, ap, ◌∙◌}
 use mathlib.Core.List.{List}
@@ -14,7 +15,6 @@ use Rattle.channel_list.specs.declared.State as channel-state
 use Rattle.channel_list.specs.declared.Token as channel-token
 use Rattle.channel_list.specs.declared.Answer as channel-answer
 use Rattle.channel_list.specs.declared.Step as channel-step
-use Rattle.channel_list.specs.declared.Opened.{Opened}
 use Rattle.numeric_list.specs.declared.Token as numeric-token
 use Rattle.numeric_list.specs.declared.Answer as numeric-answer
 use Rattle.numeric_list.specs.declared.Step as numeric-step
@@ -88,12 +88,12 @@ module _ (words : List ℕ) (o : Outcome ℕ) (a : Said) where
   unfolding numeric_left
   numeric' x ea e = e ∙ rw ea
 
-  module _ (end : ℕ) (x : Opened) where
-    pub opened' : (st : channel-state.State) → x ≡ Opened.List st → a ≡ plain_of 0 → o ≡ left_in words st.place st.first 0 a → o ≡ opened_left words end x
+  module _ (end : ℕ) (x : Option channel-state.State) where
+    pub opened' : (st : channel-state.State) → x ≡ Some st → a ≡ plain_of 0 → o ≡ left_in words st.place st.first 0 a → o ≡ opened_left words end x
     unfolding opened_left
     opened' st q ea e = e ∙ rw (ea, q)
 
-    pub not_one' : x ≡ Opened.NotOne → a ≡ refused_of InvalidExpression → o ≡ left_in words end true 0 a → o ≡ opened_left words end x
+    pub not_one' : x ≡ None → a ≡ refused_of InvalidExpression → o ≡ left_in words end true 0 a → o ≡ opened_left words end x
     unfolding opened_left
     not_one' q ea e = e ∙ rw (ea, q)
 

@@ -1,5 +1,5 @@
 -- The words of a step of a channel list or of a numeric list: the place, whether no item has been read yet, the dimension, and the item.
-use Rattle.std.specs.Prelude.{ℕ, List, true, get_or}
+use Rattle.std.specs.Prelude.{ℕ, List, true, get_or, Option, Some, None}
 use Rattle.error.specs.declared.ErrorCode.TheVariants.{InvalidExpression}
 use Rattle.token.specs.View.{view_of}
 use Rattle.channel_list.specs.declared.State as channel-state
@@ -8,8 +8,6 @@ use Rattle.channel_list.specs.declared.Token.TheVariants.{ChannelSpec, ChannelRa
 use Rattle.channel_list.specs.declared.Answer as channel-answer
 use Rattle.channel_list.specs.declared.Answer.TheVariants as channel_answers
 use Rattle.channel_list.specs.declared.Step as channel-step
-use Rattle.channel_list.specs.declared.Opened.{Opened}
-use Rattle.channel_list.specs.declared.Opened.TheVariants as opens
 use Rattle.numeric_list.specs.declared.State as numeric-state
 use Rattle.numeric_list.specs.declared.Token as numeric-token
 use Rattle.numeric_list.specs.declared.Token.TheVariants.{Numeric, NumericRange}
@@ -28,9 +26,9 @@ abbrev pub numeric_state : List ℕ → numeric-state.State
 numeric_state words = record { place = get_or words 0 0; first = is_set (get_or words 1 0) }
 
 -- the front of a channel list; a text that is none is -171, and the place is its end, which is handed over
-unfoldable pub opened_left : List ℕ → ℕ → Opened → Outcome ℕ
-opened_left words end (opens.List st) = left_in words st.place st.first 0 (plain_of 0)
-opened_left words end opens.NotOne = left_in words end true 0 (refused_of InvalidExpression)
+unfoldable pub opened_left : List ℕ → ℕ → Option channel-state.State → Outcome ℕ
+opened_left words end (Some st) = left_in words st.place st.first 0 (plain_of 0)
+opened_left words end None = left_in words end true 0 (refused_of InvalidExpression)
 
 -- the kinds of items of a channel list, with the dimension of a spec, or of a range, whose ends have one dimension
 abbrev pub channel_item : channel-token.Token → Said

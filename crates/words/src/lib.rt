@@ -9,14 +9,13 @@ ghost use Rattle.words.specs.Words.{plain_of, one_of, two_of, refused_of, left_i
 ghost use Rattle.words.specs.Token.{token_item, token_said, token_state, token_left};
 ghost use Rattle.words.specs.Lists.{opened_left, channel_item, channel_said, channel_state, channel_left, numeric_item, numeric_said, numeric_state, numeric_left};
 
-use channel_list::Opened;
 use error::ErrorCode;
 use token::{Token, View};
 
 // A step of tokens or lists begins with so many lent words, and leaves its answer in them.
 pub const STEP_WORDS: usize = 8;
 
-// What a step says: its number, the dimension, the kind and the views.
+// What a step says: its number, the dimension, the kind and the views, all as the numbers that C reads.
 #[derive(Clone, Copy)]
 struct Said {
     code: i32,
@@ -85,12 +84,12 @@ pub fn put_token(words: &mut [u64], step: tokenizer::Step) -> i32
 }
 
 // Leaves what a text of so many bytes opens as: the front of a channel list, or that it is none.
-pub fn put_opened(words: &mut [u64], length: usize, opened: Opened) -> i32
+pub fn put_opened(words: &mut [u64], length: usize, opened: Option<channel_list::State>) -> i32
     ensures { record { code = result; words = words.new } ≡ opened_left words.old length opened }
 {
     match opened {
-        Opened::List(state) => put(words, state.place, state.first, 0, plain(0)),
-        Opened::NotOne => put(
+        Some(state) => put(words, state.place, state.first, 0, plain(0)),
+        None => put(
             words,
             length,
             true,

@@ -1,10 +1,8 @@
-use Prim.Native.Nat.{◌-◌, ◌≤◌}
-use mathlib.Core.Path.{◌≡◌}
-use lib.ListN.{length}
+use Rattle.std.proofs.Common.{◌-◌, ◌≤◌, length}
 use Rattle.commandcheck.proofs.read_text.Given as goal
 
 abbrev pub invariant-loop-held : goal.invariant-loop-held
-invariant-loop-held l = (length l.text ≡ length l.initial.text) × (l.held ≤ length l.text)
+invariant-loop-held l = l.held ≤ length l.text
 
 abbrev pub decreases-loop-held : goal.decreases-loop-held
 decreases-loop-held l = length l.text - l.held

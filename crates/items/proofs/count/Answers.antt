@@ -10,23 +10,23 @@ returns-then-s-first-eq59 c = search counts
 pub returns-then-s-first-eq10 : goal.returns-then-s-first-eq10
 returns-then-s-first-eq10 c = search counts
 
-pub loop-e-init : goal.loop-e-init
-loop-e-init c = search counts
+pub loop-next-init : goal.loop-next-init
+loop-next-init c = search counts
 
 pub overflow_add-count : goal.overflow_add-count
-overflow_add-count c = search counts
+overflow_add-count c = search (counts, c.in_ok-next.was)
 
 pub returns-then-s-next : goal.returns-then-s-next
-returns-then-s-next c = search counts
+returns-then-s-next c = search (counts, c.in_ok-next.was)
 
 pub returns-then-s-next-eq59 : goal.returns-then-s-next-eq59
-returns-then-s-next-eq59 c = search counts
+returns-then-s-next-eq59 c = search (counts, c.in_ok-next.was)
 
-pub returns-in-Refused-comma : goal.returns-in-Refused-comma
-returns-in-Refused-comma c = search counts
+pub returns-in_err-place : goal.returns-in_err-place
+returns-in_err-place c = search (counts, c.in_ok-next.was, c.in_err-place.was)
 
-pub loop-e-smaller : goal.loop-e-smaller
-loop-e-smaller c = search counts
+pub loop-next-smaller : goal.loop-next-smaller
+loop-next-smaller c = search (counts, c.in_ok-next.was, c.in_ok-place.was)
 
-pub loop-e-preserved : goal.loop-e-preserved
-loop-e-preserved c = search counts
+pub loop-next-preserved : goal.loop-next-preserved
+loop-next-preserved c = search (counts, c.in_ok-next.was, c.in_ok-place.was)

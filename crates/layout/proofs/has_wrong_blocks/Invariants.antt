@@ -1,10 +1,6 @@
 use Prim.Native.Nat.{◌-◌}
-use lib.ListN.{length}
 use Rattle.layout.proofs.Blocks.{Follows}
 use Rattle.layout.proofs.has_wrong_blocks.Given as goal
 
 abbrev pub invariant-loop-k : goal.invariant-loop-k
 invariant-loop-k l = Follows l.nodes l.k l.behind
-
-abbrev pub decreases-loop-k : goal.decreases-loop-k
-decreases-loop-k l = length l.nodes - l.k

@@ -1,10 +1,6 @@
 use Prim.Native.Nat.{◌-◌}
-use lib.ListN.{length}
 use Rattle.layout.proofs.Fields.{Fitting}
 use Rattle.layout.proofs.has_wrong_fields.Given as goal
 
-abbrev pub invariant-loop-k : goal.invariant-loop-k
-invariant-loop-k l = Fitting l.nodes l.k
-
-abbrev pub decreases-loop-k : goal.decreases-loop-k
-decreases-loop-k l = length l.nodes - l.k
+abbrev pub invariant-loop-word : goal.invariant-loop-word
+invariant-loop-word l = Fitting l.nodes l.word-index

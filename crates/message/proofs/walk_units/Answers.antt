@@ -10,8 +10,8 @@ returns-then-s-place c = search walk_laws
 pub returns-then-sees_end : goal.returns-then-sees_end
 returns-then-sees_end c = search walk_laws
 
-pub returns-in-Refused : goal.returns-in-Refused
-returns-in-Refused c = search walk_laws
+pub returns-in-Err : goal.returns-in-Err
+returns-in-Err c = search walk_laws
 
 pub returns-then-slots-units : goal.returns-then-slots-units
 returns-then-slots-units c = search walk_laws

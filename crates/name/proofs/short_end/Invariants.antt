@@ -1,12 +1,8 @@
 use Prim.Native.Nat.{◌-◌}
 use mathlib.Core.Path.{◌≡◌}
-use lib.ListN.{length}
 use Rattle.util.specs.Run.{run, run_end}
 use Rattle.mnemonic.specs.Mnemonic.{not_small}
 use Rattle.name.proofs.short_end.Given as goal
 
 abbrev pub invariant-loop-i : goal.invariant-loop-i
 invariant-loop-i l = run not_small l.s ≡ run_end not_small l.s l.i
-
-abbrev pub decreases-loop-i : goal.decreases-loop-i
-decreases-loop-i l = length l.s - l.i

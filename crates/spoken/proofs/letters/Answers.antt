@@ -1,4 +1,4 @@
-use Rattle.spoken.proofs.Fronts.{text_holds', letters_laws}
+use Rattle.spoken.proofs.Fronts.{letters_laws}
 use Rattle.spoken.proofs.letters.Goals as goal
 
 pub bounds-name-i : goal.bounds-name-i
@@ -8,7 +8,7 @@ pub overflow_add-at : goal.overflow_add-at
 overflow_add-at c = search letters_laws
 
 pub bounds-s-at : goal.bounds-s-at
-bounds-s-at c = search text_holds'
+bounds-s-at c = search letters_laws
 
 pub returns-then-not-is_said : goal.returns-then-not-is_said
 returns-then-not-is_said c = search letters_laws

@@ -7,8 +7,8 @@ offset_bounds-nodes-k c = search block_laws
 pub bounds-nodes-k : goal.bounds-nodes-k
 bounds-nodes-k c = search block_laws
 
-pub returns-in-To : goal.returns-in-To
-returns-in-To c = search block_laws
+pub returns-in-Some : goal.returns-in-Some
+returns-in-Some c = search block_laws
 
 pub loop-k-smaller : goal.loop-k-smaller
 loop-k-smaller c = search block_laws

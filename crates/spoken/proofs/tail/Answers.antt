@@ -1,7 +1,7 @@
 use Rattle.std.proofs.Common.{arith}
 use mathlib.Core.Path.{refl, ap}
 use mathlib.Core.Bool.{not}
-use Rattle.spoken.proofs.Tails.{missing', next_fits', counted_more', tail_laws}
+use Rattle.spoken.proofs.Tails.{next_fits', counted_more', tail_laws}
 use Rattle.spoken.proofs.tail.Goals as goal
 
 pub loop-i-init : goal.loop-i-init

@@ -1,9 +1,0 @@
-use Prim.Native.Nat.{suc, ◌-◌}
-use lib.ListN.{length}
-use Rattle.answer.proofs.put_steps.Given as goal
-
-abbrev pub invariant-loop-turn : goal.invariant-loop-turn
-invariant-loop-turn l = Unit {0}
-
-abbrev pub decreases-loop-turn : goal.decreases-loop-turn
-decreases-loop-turn l = suc (length l.text) - l.turn

@@ -1,9 +1,0 @@
-use Rattle.answer.proofs.Laws.{laws}
-use Rattle.answer.proofs.tables.check_table as f
-
-pub check_table_spec : {M : Type 1} → f.Statement.statement M
-check_table_spec =
-    f.Tie.close (f.Tie.spec (λ c κs. search laws) (λ c κs. search laws) (λ c. search laws) (λ c. search laws) (λ c. search laws)
-    (λ c κs. search laws) (λ c κs. search laws) (λ c. search laws) (λ c. search laws) (λ c. search laws) (λ c. search laws)
-    (λ c. search laws) (λ c. search laws) (λ c. search laws) (λ c κs. search laws) (λ c κs. search laws) (λ c. search laws)
-    (λ c. search laws) (λ c. search laws))

@@ -1,7 +1,0 @@
-use Rattle.channel_list.proofs.Steps.{steps}
-use Rattle.channel_list.proofs.next as f
-
-pub next_spec : {M : Type 1} → f.Statement.statement M
-next_spec =
-    f.Tie.close (f.Tie.spec (λ c. search steps) (λ c κs. search steps) (λ c. search steps) (λ c κs. search steps)
-    (λ c. search steps) (λ c. search steps) (λ c κs. search steps) (λ c. search steps) (λ c. search steps) (λ c. search steps))

@@ -1,5 +1,0 @@
-use Rattle.coordinate.proofs.Coordinates.{ones}
-use Rattle.coordinate.proofs.no_coordinate as f
-
-pub no_coordinate_spec : {M : Type 1} → f.Statement.statement M
-no_coordinate_spec = f.Tie.close (f.Tie.spec (λ c κs. search ones) (λ c. search ones) (λ c. search ones))

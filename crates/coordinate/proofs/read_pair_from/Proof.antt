@@ -1,7 +1,0 @@
-use Rattle.coordinate.proofs.Coordinates.{laws}
-use Rattle.coordinate.proofs.read_pair_from as f
-
-pub read_pair_from_spec : {M : Type 1} → f.Statement.statement M
-read_pair_from_spec =
-    f.Tie.close (f.Tie.spec (λ c κs. search laws) (λ c. search laws) (λ c κs. search laws) (λ c. search laws) (λ c. search laws)
-    (λ c. search laws) (λ c. search laws) (λ c. search laws) (λ c. search laws))

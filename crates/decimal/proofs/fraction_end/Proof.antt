@@ -1,7 +1,0 @@
-use Rattle.decimal.proofs.Decimals.{numbers}
-use Rattle.decimal.proofs.fraction_end as f
-
-pub fraction_end_spec : {M : Type 1} → f.Statement.statement M
-fraction_end_spec =
-    f.Tie.close (f.Tie.spec (λ c. search numbers) (λ c. search numbers) (λ c. search numbers) (λ c. search numbers)
-    (λ c κs. search numbers) (λ c. search numbers))

@@ -1,7 +1,0 @@
-use Rattle.decimal.proofs.Decimals.{suffixes}
-use Rattle.decimal.proofs.in_suffix as f
-
-pub in_suffix_spec : {M : Type 1} → f.Statement.statement M
-in_suffix_spec =
-    f.Tie.close (f.Tie.spec (λ c κs. search suffixes) (λ c. search suffixes) (λ c κs. search suffixes) (λ c. search suffixes)
-    (λ c. search suffixes) (λ c. search suffixes) (λ c. search suffixes))

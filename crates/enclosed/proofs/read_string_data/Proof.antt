@@ -1,7 +1,0 @@
-use Rattle.enclosed.proofs.Strings.{laws}
-use Rattle.enclosed.proofs.read_string_data as f
-
-pub read_string_data_spec : {M : Type 1} → f.Statement.statement M
-read_string_data_spec =
-    f.Tie.close (f.Tie.spec (λ c κs. search laws) (λ c. search laws) (λ c. search laws) (λ c. search laws) (λ c. search laws)
-    (λ c κs. search laws) (λ c. search laws))

@@ -1,5 +1,0 @@
-use Rattle.kind.proofs.Laws.{laws}
-use Rattle.kind.proofs.is_digit as f
-
-pub is_digit_spec : {M : Type 1} → f.Statement.statement M
-is_digit_spec = f.Tie.close (f.Tie.spec (λ c. search laws) (λ c. search laws))

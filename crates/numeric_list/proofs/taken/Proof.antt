@@ -1,5 +1,0 @@
-use Rattle.numeric_list.proofs.List.{laws}
-use Rattle.numeric_list.proofs.taken as f
-
-pub taken_spec : {M : Type 1} → f.Statement.statement M
-taken_spec = f.Tie.close (f.Tie.spec (λ c. search laws))

@@ -1,5 +1,0 @@
-use Rattle.report.proofs.Steps.{laws}
-use Rattle.report.proofs.token_text.end_part.Goals as goal
-
-pub returns : goal.returns
-returns c = search laws

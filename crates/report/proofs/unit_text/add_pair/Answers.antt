@@ -1,5 +1,0 @@
-use Rattle.report.proofs.Lines.{parts}
-use Rattle.report.proofs.unit_text.add_pair.Goals as goal
-
-pub returns : goal.returns
-returns c = search parts

@@ -1,0 +1,6 @@
+use Rattle.std.proofs.Common.{rules}
+use Rattle.report.proofs.Fronts.{whole}
+use Rattle.report.proofs.unit_text.walk_line.Goals as goal
+
+pub returns : goal.returns
+returns c = whole _ _ _ _ (search rules)

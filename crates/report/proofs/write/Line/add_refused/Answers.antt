@@ -1,0 +1,5 @@
+use Rattle.report.proofs.Steps.{laws}
+use Rattle.report.proofs.write.Line.add_refused.Goals as goal
+
+pub returns : goal.returns
+returns c = search laws

@@ -1,0 +1,5 @@
+use Rattle.report.proofs.Lines.{lines}
+use Rattle.report.proofs.write.Line.add_unit.Goals as goal
+
+pub returns : goal.returns
+returns c = search lines

@@ -1,6 +1,0 @@
-use Rattle.vinderaz.proofs.Tree.{match_laws}
-use Rattle.vinderaz.proofs.vinderaz_mnemonic_compare as f
-
-pub vinderaz_mnemonic_compare_spec : {M : Type 1} → f.Statement.statement M
-vinderaz_mnemonic_compare_spec =
-    f.Tie.close (f.Tie.spec (λ c κs. search match_laws) (λ c. search match_laws) (λ c. search match_laws))

@@ -1,5 +1,0 @@
-use Rattle.words.proofs.Steps.{states}
-use Rattle.words.proofs.numeric_state as f
-
-pub numeric_state_spec : {M : Type 1} → f.Statement.statement M
-numeric_state_spec = f.Tie.close (f.Tie.spec (λ c κs. search states) (λ c κs. search states) (λ c. search states))

@@ -16,5 +16,5 @@ pub fn names(matched: bool, compared: bool) -> [u8; 18]
 fn digit(yes: bool) -> u8
     ensures { result ≡ flag yes }
 {
-    if yes { b'1' } else { b'0' }
+    b'0' + u8::from(yes)
 }

@@ -25,22 +25,14 @@ pub fn vinderaz_check(nodes: &[u64], names: &[u8]) -> i32
 pub fn vinderaz_mnemonic_match(name: &[u8], word: &[u8]) -> i32
     ensures { result ≡ pos (bit (matches name.now word.now)) }
 {
-    if mnemonic::mnemonic_match(name, word) {
-        1
-    } else {
-        0
-    }
+    i32::from(mnemonic::mnemonic_match(name, word))
 }
 
 // Whether the mnemonic is the name in its long or its short form, digits and all: 1, or else 0.
 pub fn vinderaz_mnemonic_compare(name: &[u8], mnemonic: &[u8]) -> i32
     ensures { result ≡ pos (bit (compares name.now mnemonic.now)) }
 {
-    if mnemonic::mnemonic_compare(name, mnemonic) {
-        1
-    } else {
-        0
-    }
+    i32::from(mnemonic::mnemonic_compare(name, mnemonic))
 }
 
 // Resolves one header; its word goes to the first slot.

@@ -139,7 +139,7 @@ fn put(words: &mut [u64], place: usize, second: bool, third: u64, said: Said) ->
 fn flag(b: bool) -> u64
     ensures { result ≡ bit b }
 {
-    if b { 1 } else { 0 }
+    u64::from(b)
 }
 
 // A kind with no view.

@@ -114,7 +114,7 @@ static inline const char *vinderaz_text(int32_t number) {
 #define VINDERAZ_STACK_RESOLVE 2040
 #define VINDERAZ_STACK_WALK 2296
 #define VINDERAZ_STACK_DEFAULT 200 /* check, resolve and walk: for each default branch that is a child of another */
-#define VINDERAZ_STACK_RESOLVE_ACCEPTED 1976
+#define VINDERAZ_STACK_RESOLVE_ACCEPTED 1984
 #define VINDERAZ_STACK_WALK_ACCEPTED 2272
 #define VINDERAZ_STACK_MNEMONIC_MATCH 368
 #define VINDERAZ_STACK_MNEMONIC_COMPARE 80

@@ -135,7 +135,7 @@ fn copy(part: &[u8], to: &mut [u8], at: usize) -> Option<usize> {
     Some(at + part.len())
 }
 
-// Answers a request line by its letter.
+// Answers a request line by its letter. The functions differ in what they take, so that no table has them.
 fn respond(line: &[u8], store: &mut Store, out: &mut Output) -> io::Result<()> {
     let mut fields = Fields::new(line);
     match fields.letter() {

@@ -1,4 +1,5 @@
-// The coordinates of a channel spec, written into as many lent words.
+// The coordinates of a channel spec, written into as many lent words. Two functions, for words of either type, since C has
+// both.
 #![tactic(auto)]
 
 ghost use Rattle.std.specs.Prelude.{◌≡◌};

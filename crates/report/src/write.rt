@@ -22,7 +22,7 @@ impl Line<'_> {
         self.len = end;
     }
 
-    // Adds a number in decimal, of 20 digits at most.
+    // Adds a number in decimal, of 20 digits at most; by `io::decimal`, since the exact bytes are promised.
     pub(crate) fn add_number(&mut self, n: u64)
         requires { self.old.len + 20 ≤ 128 }
         ensures { Adds self.old (decimal n) self.new × (self.new.len ≤ self.old.len + 20) }

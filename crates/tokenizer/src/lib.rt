@@ -71,6 +71,7 @@ pub fn next(s: &[u8], state: State) -> Step
     }
     let b = s[at];
     let k = kind::kind_of(b);
+    // A match, whose arms differ in what they pass: a table of functions would hand out pointers to them.
     match k {
         Kind::Newline => newline(s, at + 1, state),
         Kind::Blank => blank(s, at, state),

@@ -1,4 +1,5 @@
 // The unsigned forms of a channel's coordinates: those of `coordinate`, none a negative. expression/channel_list.rs of the original.
+// One, two and three are read by three functions, as there.
 #![tactic(auto)]
 
 ghost use Rattle.std.specs.Prelude.{◌≡◌, Ok};

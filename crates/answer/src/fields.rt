@@ -40,7 +40,7 @@ impl<'a> Fields<'a> {
         request::read_number(self.line, self.next()?)
     }
 
-    // The next field as a text in hex, which is written into a buffer from a place on: the place behind it there.
+    // The next field as a text in hex, which is written into a buffer from a place on: the place after it there.
     pub(crate) fn text(&mut self, out: &mut [u8], from: usize) -> Option<usize>
         ensures { IfSome result (λ end. (from ≤ end) × (end ≤ length out.new)) }
     {
@@ -48,7 +48,7 @@ impl<'a> Fields<'a> {
     }
 
     // The next field as a table: its words, `/` and its names in hex, which are written to the front of two buffers. How
-    // many words are kept, and the place behind the names. Of more words than there is room for, those that fill their
+    // many words are kept, and the place after the names. Of more words than there is room for, those that fill their
     // buffer are kept.
     pub(crate) fn table(&mut self, words: &mut [u64], text: &mut [u8]) -> Option<(usize, usize)>
         ensures { IfSome result (λ t. (t.0 ≤ length words.new) × (t.1 ≤ length text.new)) }
@@ -73,7 +73,7 @@ impl<'a> Fields<'a> {
         self.next().is_none()
     }
 
-    // All that is left, as a text in hex, which is written to the front of a buffer: the place behind it there.
+    // All that is left, as a text in hex, which is written to the front of a buffer: the place after it there.
     pub(crate) fn only_text(mut self, text: &mut [u8]) -> Option<usize>
         ensures { IfSome result (λ end. end ≤ length text.new) }
     {
@@ -84,7 +84,7 @@ impl<'a> Fields<'a> {
         Some(end)
     }
 
-    // All that is left, as two texts in hex, the second of which is written behind the first: the places behind both.
+    // All that is left, as two texts in hex, the second of which is written after the first: the places after both.
     pub(crate) fn names(mut self, text: &mut [u8]) -> Option<(usize, usize)>
         ensures { IfSome result (λ t. (t.0 ≤ t.1) × (t.1 ≤ length text.new)) }
     {

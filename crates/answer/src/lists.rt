@@ -80,7 +80,7 @@ fn put_view(word: &str, view: View, out: &mut Output) -> io::Result<()> {
     write!(out, "{word} {}..{}", view.start, view.end)
 }
 
-// The place behind an item, and what stands before the next part.
+// The place after an item, and what comes before the next part.
 fn put_place(place: usize, out: &mut Output) -> io::Result<()> {
     write!(out, " @{place} | ")
 }

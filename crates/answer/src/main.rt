@@ -71,7 +71,7 @@ impl Session {
         Ok(())
     }
 
-    // Answers each line that ends in what was read. What stands behind the last newline is kept for the next time.
+    // Answers each line that ends in what was read. What follows the last newline is kept for the next time.
     fn take_lines(&mut self, input: &[u8]) -> io::Result<()> {
         let mut rest = input;
         while let Some(end) = line_end(rest) {
@@ -128,7 +128,7 @@ impl Line {
     }
 }
 
-// Copies a part to a place, and answers the place behind it, where there is room.
+// Copies a part to a place, and answers the place after it, where there is room.
 fn copy(part: &[u8], to: &mut [u8], at: usize) -> Option<usize> {
     let room = to.get_mut(at..)?.get_mut(..part.len())?;
     room.copy_from_slice(part);

@@ -8,7 +8,7 @@ use crate::{Store, refuse};
 use std::io;
 use std::io::Write;
 
-// The slots of a walk, where no fewer are asked for.
+// The slots of a walk, unless the request names fewer.
 const SLOTS: usize = 32768;
 
 // F, a table: `accepted`, or `fault` and the number of its fault.

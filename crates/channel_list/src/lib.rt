@@ -40,7 +40,7 @@ pub struct Step {
     pub state: State,
 }
 
-// Where the next item of a list begins, or what stands there in its place: three cases, and neither an Option nor a Result.
+// Where the next item of a list begins, or what is there in its place: three cases, and neither an Option nor a Result.
 #[derive(Clone, Copy)]
 enum Front {
     Item(usize),

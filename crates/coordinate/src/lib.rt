@@ -72,7 +72,7 @@ fn read_pair_from(spec: &[u8], at: usize) -> Result<(i64, i64), ErrorCode>
     Ok((first, second))
 }
 
-// The integer that begins at a place, where a `!` follows it, and the place behind that.
+// The integer that begins at a place, where a `!` follows it, and the place after that.
 fn read_joined(spec: &[u8], at: usize) -> Option<(i64, usize)>
     ensures { result ≡ joined_at spec.now at }
 {

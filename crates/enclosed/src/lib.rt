@@ -49,7 +49,7 @@ pub fn read_expression_data(s: &[u8], at: usize) -> Read
     )
 }
 
-// The place behind what a string holds: the quote that closes it, a byte from 128 up, or the end of the text. A doubled quote is passed in one step
+// The place after what a string holds: the quote that closes it, a byte from 128 up, or the end of the text. A doubled quote is passed in one step
 // of two, which no `for` takes.
 fn string_end(s: &[u8], at: usize, quote: u8) -> usize
     ensures { result ≡ string_end quote s.now at }

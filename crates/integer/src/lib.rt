@@ -19,7 +19,7 @@ pub enum NumberError {
     TooLarge,
 }
 
-// The number whose digits begin at a place, as far as they go, and the place behind them.
+// The number whose digits begin at a place, as far as they go, and the place after them.
 pub fn read_unsigned(s: &[u8], at: usize, radix: Radix) -> Result<(u64, usize), NumberError>
     ensures { result ≡ unsigned_at radix s.now at }
 {
@@ -49,7 +49,7 @@ fn found(value: u64, at: usize, end: usize) -> Result<(u64, usize), NumberError>
     Ok((value, end))
 }
 
-// A value with one more digit behind it, where that fits 64 bits; the limit is the largest value that has room for a digit 0.
+// A value with one more digit after it, where that fits 64 bits; the limit is the largest value that has room for a digit 0.
 fn with_digit(value: u64, digit: u64, base: u64, limit: u64) -> Option<u64>
     requires { (0 < base) × (limit ≡ (2 ^ 64 - 1) / base) }
     ensures { result ≡ longer (value * base + digit) }

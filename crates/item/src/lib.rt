@@ -84,7 +84,7 @@ fn star_end(s: &[u8], at: usize) -> usize
     at
 }
 
-// The class of what may stand in a mnemonic behind its first letter.
+// The class of what may stand in a mnemonic after its first letter.
 struct InMnemonic;
 
 impl Class for InMnemonic {
@@ -95,7 +95,7 @@ impl Class for InMnemonic {
     }
 }
 
-// The place behind the characters of a class that begin at a place, of 13 at most.
+// The place after the characters of a class that begin at a place, of 13 at most.
 pub fn near_run_end<C: Class>(s: &[u8], at: usize) -> usize
     ensures { result ≡ run_end_among 13 C.class s.now at }
 {

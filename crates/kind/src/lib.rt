@@ -9,7 +9,7 @@ ghost use Rattle.kind.specs.Kind.{kind_of};
 
 use kinds::KINDS;
 
-// The characters that the token step tells apart. White space is the first two, letters the last two, and what may stand in a mnemonic the
+// The kinds of bytes that the token step distinguishes. White space is the first two, letters the last two, and what may stand in a mnemonic the
 // last four.
 #[derive(Clone, Copy, PartialEq, Eq)]
 pub enum Kind {

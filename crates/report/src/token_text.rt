@@ -37,7 +37,7 @@ impl Line<'_> {
         }
     }
 
-    // Adds a token and the state behind it.
+    // Adds a token and the state after it.
     fn add_taken(&mut self, token: Token, state: State)
         requires { self.old.len ≡ 0 }
         ensures { Adds self.old (taken_text token state) self.new }

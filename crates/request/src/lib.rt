@@ -45,7 +45,7 @@ impl Class for Ink {
 }
 
 // Writes the bytes that the hex digits of a part of the line say into a buffer, from a place on, and answers the
-// place behind them. `-` says the empty text. What is no part of the line, no hex, or too long for the buffer writes
+// place after them. `-` is the empty text. What is no part of the line, no hex, or too long for the buffer writes
 // nothing.
 pub fn unhex(line: &[u8], part: Part, out: &mut [u8], at: usize) -> Option<usize>
     ensures { (record { says = result; slots = out.new }) ≡ unhexed line.now part.start part.end out.old at }

@@ -1,4 +1,4 @@
-// What separators of a program message let stand behind them: newline, `:`, `?` and `,`. A part of tokenizer/mod.rs of the original. Each
+// What separators of a program message let follow them: newline, `:`, `?` and `,`. A part of tokenizer/mod.rs of the original. Each
 // function answers the place that the separator leads to, or a refusal.
 #![tactic(auto)]
 

@@ -93,7 +93,7 @@ word_at s st at = cond (is_in_header st) (form s st (mnemonic s at)) (form s st 
 unfoldable pub outside : List ℕ → State → Result (Token × ℕ) ErrorCode → Step
 outside s st r = cond (is_in_header st) (refusal s st CommandHeaderError) (form s st r)
 
--- The step at a place, by the kind of the byte that stands there. A semicolon begins a
+-- The step at a place, by the kind of the byte there. A semicolon begins a
 -- message unit (IEEE 488.2 7.4.1), and white space ends a header (7.4.3).
 unfoldable pub by_kind : List ℕ → State → ℕ → ℕ → Kind → Step
 by_kind s st at b kind.Newline = newline_before s st (at + 1)

@@ -7,7 +7,7 @@ ghost use Rattle.util.specs.Run.{run_end, sign_end, stands_at, least};
 
 use kind::{Class, Digit, Small, WhiteSpace};
 
-// The place behind the characters of a class that begin at a place.
+// The place after the characters of a class that begin at a place.
 pub fn run_end<C: Class>(s: &[u8], at: usize) -> usize
     ensures { result ≡ run_end C.class s.now at }
 {

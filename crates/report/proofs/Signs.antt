@@ -8,7 +8,7 @@ use native.Mathlib.Omega.{arith}
 use lib.IntN.{ℤ, pos, negsuc, nat_abs}
 use lib.Signed.{lt_z}
 use borrow.Author.Tests.{ltb-true}
-use mir.Syntax.{w32}
+use mir.Syntax.{w32, w64}
 use mir.Val.{SFits, to_z, of_z}
 use mir.ValLaws.{to_z-of_z}
 use Rattle.report.specs.{Added.Added, Number.decimal, Number.signed}
@@ -28,6 +28,13 @@ plus (negsuc n) e = absurd (let z : ◌≡◌ {A = ℕ} 0 1 = cc in omega arith)
 module _ (n : ℤ) (f : SFits w32 n) where
   here : to_z w32 (of_z w32 n) ≡ n
   here = to_z-of_z w32 n f
+
+  pub wider' : SFits w64 (to_z w32 (of_z w32 n))
+  wider' = rw here (record { sfits = omega arith })
+
+  -- the size of the number as one of 64 bits
+  pub wide_size' : (g : ℤ) (k : ℕ) → g ≡ to_z w32 (of_z w32 n) → k ≡ nat_abs (to_z w64 (of_z w64 g)) → k ≡ nat_abs (to_z w32 (of_z w32 n))
+  wide_size' g k e h = h ∙ ap (λ x. nat_abs (to_z w64 (of_z w64 x))) e ∙ ap nat_abs (to_z-of_z w64 (to_z w32 (of_z w32 n)) wider')
 
   module _ (l o : List ℕ) (at r k : ℕ) (e : k ≡ nat_abs (to_z w32 (of_z w32 n))) where
     size : k ≡ nat_abs n

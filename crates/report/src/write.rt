@@ -40,6 +40,6 @@ impl Line<'_> {
         if n < 0 {
             self.add(b"-");
         }
-        self.add_number(u64::from(n.unsigned_abs()));
+        self.add_number(integer::magnitude(i64::from(n)));
     }
 }

@@ -1,11 +1,11 @@
 use Rattle.std.proofs.Common.{arith, ◌∙◌}
-use Rattle.report.proofs.Signs.{minus', plus'}
+use Rattle.report.proofs.Signs.{wide_size', minus', plus'}
 use Rattle.report.proofs.write.Line.add_signed.Goals as goal
 use Rattle.report.proofs.write.Line.add_signed.Goals.{then-n-lt0, else-n-lt0}
 
 pub returns : goal.returns
 returns c =
-    let size = c.from.ensures ∙ c.unsigned_abs.ensures.value in
+    let size = wide_size' c.args.n c.ranges.n _ _ c.from.ensures c.magnitude.ensures in
     elim c.if-n-lt0.branch [
       | then-n-lt0 w ↦
           let number = rw w.self-is at c.add_number.ensures in

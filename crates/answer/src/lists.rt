@@ -60,24 +60,25 @@ fn put_channel(text: &[u8], token: channel_list::Token, out: &mut Output) -> io:
             out.write_all(b" to ")?;
             put_spec(text, end, out)
         }
-        channel_list::Token::PathName(view) => put_view("path", view, out),
+        channel_list::Token::PathName(view) => put_view(b"path ", view, out),
     }
 }
 
 // An item of a numeric list.
 fn put_numeric(token: numeric_list::Token, out: &mut Output) -> io::Result<()> {
     match token {
-        numeric_list::Token::Numeric(view) => put_view("number", view, out),
+        numeric_list::Token::Numeric(view) => put_view(b"number ", view, out),
         numeric_list::Token::NumericRange(begin, end) => {
-            put_view("range number", begin, out)?;
-            put_view(" to number", end, out)
+            put_view(b"range number ", begin, out)?;
+            put_view(b" to number ", end, out)
         }
     }
 }
 
-// A word and a view: `start..end`.
-fn put_view(word: &str, view: View, out: &mut Output) -> io::Result<()> {
-    write!(out, "{word} {}..{}", view.start, view.end)
+// A word and a view: `start..end`. Here and below words are added as they are, since what is formatted costs more.
+fn put_view(word: &[u8], view: View, out: &mut Output) -> io::Result<()> {
+    out.write_all(word)?;
+    write!(out, "{}..{}", view.start, view.end)
 }
 
 // The place after an item, and what comes before the next part.
@@ -136,25 +137,29 @@ fn put_comma(place: usize, out: &mut Output) -> io::Result<()> {
 
 // A spec taken as one, two and three coordinates.
 fn put_coordinates(part: &[u8], out: &mut Output) -> io::Result<()> {
-    put_one("i", coordinate::read_coordinate(part), out)?;
+    put_one(b" i ", coordinate::read_coordinate(part), out)?;
     put_one(
-        "u",
+        b" u ",
         unsigned_coordinate::read_unsigned_coordinate(part),
         out,
     )?;
-    put_two("ii", coordinate::read_pair(part), out)?;
-    put_two("uu", unsigned_coordinate::read_unsigned_pair(part), out)?;
-    put_three("iii", coordinate::read_triple(part), out)?;
-    put_three("uuu", unsigned_coordinate::read_unsigned_triple(part), out)
+    put_two(b" ii ", coordinate::read_pair(part), out)?;
+    put_two(b" uu ", unsigned_coordinate::read_unsigned_pair(part), out)?;
+    put_three(b" iii ", coordinate::read_triple(part), out)?;
+    put_three(
+        b" uuu ",
+        unsigned_coordinate::read_unsigned_triple(part),
+        out,
+    )
 }
 
 // A word, and the coordinate that was read.
 fn put_one<T: Display + Drop>(
-    word: &str,
+    word: &[u8],
     read: Result<T, ErrorCode>,
     out: &mut Output,
 ) -> io::Result<()> {
-    write!(out, " {word} ")?;
+    out.write_all(word)?;
     match read {
         Ok(a) => write!(out, "{a}"),
         Err(e) => put_refusal(e, out),
@@ -163,11 +168,11 @@ fn put_one<T: Display + Drop>(
 
 // A word, and the two coordinates that were read.
 fn put_two<T: Display + Drop>(
-    word: &str,
+    word: &[u8],
     read: Result<(T, T), ErrorCode>,
     out: &mut Output,
 ) -> io::Result<()> {
-    write!(out, " {word} ")?;
+    out.write_all(word)?;
     match read {
         Ok((a, b)) => write!(out, "({a},{b})"),
         Err(e) => put_refusal(e, out),
@@ -176,11 +181,11 @@ fn put_two<T: Display + Drop>(
 
 // A word, and the three coordinates that were read.
 fn put_three<T: Display + Drop>(
-    word: &str,
+    word: &[u8],
     read: Result<(T, T, T), ErrorCode>,
     out: &mut Output,
 ) -> io::Result<()> {
-    write!(out, " {word} ")?;
+    out.write_all(word)?;
     match read {
         Ok((a, b, c)) => write!(out, "({a},{b},{c})"),
         Err(e) => put_refusal(e, out),

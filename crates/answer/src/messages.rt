@@ -47,10 +47,11 @@ pub(crate) fn walk_message(
 
 // The units of the slots that were written. The others hold what they held.
 fn put_slots(units: usize, slots: &[u64], out: &mut Output) -> io::Result<()> {
-    for (i, slot) in slots.iter().enumerate() {
-        if i < units {
-            put_unit(*slot, out)?;
-        } else if *slot != UNWRITTEN {
+    for slot in slots.iter().take(units) {
+        put_unit(*slot, out)?;
+    }
+    for slot in slots.iter().skip(units) {
+        if *slot != UNWRITTEN {
             out.write_all(b"slot? | ")?;
         }
     }

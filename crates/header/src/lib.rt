@@ -13,14 +13,15 @@ use ahead::{Ahead, Seen, Stop};
 use error::ErrorCode;
 use tokenizer::State;
 
-// The command of a header, its form, the branch that the next header starts from, what ended the header, and the place after that.
+// The branch that the next header starts from, the place after what ended the header, its command, its form, and what ended it. The words stand first, so
+// that there is no gap between the members: the compiler copies a gap with the answer, in parts that overlap.
 #[derive(Clone, Copy)]
 pub struct Header {
+    pub branch: usize,
+    pub place: usize,
     pub command: u16,
     pub query: bool,
-    pub branch: usize,
     pub stop: Stop,
-    pub place: usize,
 }
 
 // Where a header begins: the node, the place of its first mnemonic, and whether that has a star.

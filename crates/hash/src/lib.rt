@@ -29,7 +29,8 @@ pub fn read_hash_data(s: &[u8], at: usize) -> Read
     }
 }
 
-// 7.7.4: the digits of a number in a radix.
+// 7.7.4: the digits of a number in a radix. Inline, so that the compiler reads each radix by a loop of its own.
+#[inline(always)]
 pub fn read_nondecimal_data(s: &[u8], at: usize, radix: Radix) -> Read
     ensures { result ≡ nondecimal_data radix s.now at }
 {

